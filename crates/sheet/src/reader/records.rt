@@ -1,0 +1,156 @@
+// Bytes and records.
+ghost use mathlib.Core.Path.{_≡_};
+ghost use Prim.Native.Nat.{ℕ, _+_, _*_, _<_, _≤_};
+ghost use lib.ListN.{length};
+ghost use Rattle.std.specs.Vec.{made};
+ghost use Rattle.sheet.specs.Layout.{switches, linksFrom, links as linksAt, flowsFrom, flows, endsFrom};
+ghost use Rattle.sheet.specs.Pieces.{switchCount, linkMask, flowCount, flowEnds, sameCount, switchRow, neededMask};
+ghost use Rattle.sheet.specs.Tables.{rowSize};
+ghost use Rattle.sheet.specs.Reads.{bytes, ByteRead, BytesRead, MaskRead, Tells, Going, Passing};
+use crate::fault::Fault;
+use crate::fault::FaultKind;
+use crate::fault::Section;
+use crate::reader::Reader;
+use crate::rules::big_endian;
+use crate::rules::links_fit;
+use crate::rules::mask_fits;
+use crate::rules::row_fits;
+use crate::rules::tested;
+use crate::rules::within;
+
+impl<'a> Reader<'a> {
+    // The next byte, which belongs to the section.
+    fn byte(&mut self, section: Section) -> Result<u8, Fault>
+        ensures kept { λ _. ⌜ bytes (now (self .exit)) ≡ bytes (now (self .entry)) ⌝ }
+        ensures reads { λ r. ⌜ ByteRead (now (self .entry)) (now (self .exit)) section r ⌝ }
+    {
+        if self.at >= self.sheet.len() {
+            return Err(Fault {
+                kind: FaultKind::EndsTooSoon,
+                section,
+                place: self.sheet.len(),
+            });
+        }
+        let b = self.sheet[self.at];
+        self.at += 1;
+        Ok(b)
+    }
+
+    // The next bytes, which are a record of the section.
+    fn record(&mut self, section: Section, size: u8) -> Result<&'a [u8], Fault>
+        ensures kept { λ _. ⌜ bytes (now (self .exit)) ≡ bytes (now (self .entry)) ⌝ }
+        ensures reads { λ r. ⌜ BytesRead size (now (self .entry)) (now (self .exit)) section r ⌝ }
+    {
+        let sheet = self.sheet;
+        let from = self.at;
+        for _ in 0..size {
+            self.byte(section)?;
+        }
+        Ok(&sheet[from..self.at])
+    }
+
+    // A mask of eight bytes, which is a record of the section.
+    fn mask(&mut self, section: Section) -> Result<u64, Fault>
+        ensures kept { λ _. ⌜ bytes (now (self .exit)) ≡ bytes (now (self .entry)) ⌝ }
+        ensures reads { λ r. ⌜ MaskRead (now (self .entry)) (now (self .exit)) section r ⌝ }
+    {
+        let eight = self.record(section, 8)?;
+        Ok(big_endian(eight))
+    }
+
+    // The number of switches.
+    pub fn switch_count(&mut self) -> Result<u8, Fault>
+        requires { ⌜ now self .at ≡ 0 ⌝ }
+        ensures kept { λ _. ⌜ bytes (now (self .exit)) ≡ bytes (now (self .entry)) ⌝ }
+        ensures tells { λ r. ⌜ Tells (bytes (now (self .entry))) (switchCount (bytes (now (self .entry)))) r ⌝ }
+        ensures goes { λ r. ⌜ Passing (now (self .exit)) (linksFrom 0) (switches (bytes (now (self .entry)))) r ⌝ }
+        ensures few { λ r. ⌜ made r (λ n. n ≤ 64) ⌝ }
+    {
+        let n = self.byte(Section::A)?;
+        tested(within(64, n), FaultKind::SwitchCount, Section::A, 0)?;
+        Ok(n)
+    }
+
+    // The links of switch s of n.
+    pub fn link_mask(&mut self, n: u8, s: u8) -> Result<(), Fault>
+        requires { ⌜ now self .at ≡ linksFrom s ⌝ ∗ ⌜ n ≡ switches (bytes (now self)) ⌝ }
+        ensures kept { λ _. ⌜ bytes (now (self .exit)) ≡ bytes (now (self .entry)) ⌝ }
+        ensures tells { λ r. ⌜ Tells (bytes (now (self .entry))) (linkMask (bytes (now (self .entry))) s) r ⌝ }
+        ensures goes { λ r. ⌜ Going (now (self .exit)) (linksFrom (s + 1)) r ⌝ }
+    {
+        let place = self.at;
+        let links = self.mask(Section::A)?;
+        tested(links_fit(links, n, s), FaultKind::LinkMask, Section::A, place)
+    }
+
+    // The number of flows.
+    pub fn flow_count(&mut self) -> Result<u8, Fault>
+        requires { ⌜ now self .at ≡ flowsFrom (bytes (now self)) ⌝ }
+        ensures kept { λ _. ⌜ bytes (now (self .exit)) ≡ bytes (now (self .entry)) ⌝ }
+        ensures tells { λ r. ⌜ Tells (bytes (now (self .entry))) (flowCount (bytes (now (self .entry)))) r ⌝ }
+        ensures goes { λ r. ⌜ Passing (now (self .exit)) (endsFrom (bytes (now (self .entry))) 0) (flows (bytes (now (self .entry)))) r ⌝ }
+    {
+        let place = self.at;
+        let f = self.byte(Section::B)?;
+        tested(within(8, f), FaultKind::FlowCount, Section::B, place)?;
+        Ok(f)
+    }
+
+    // The ingress and the exit of a flow, among n switches.
+    pub fn flow_ends(&mut self, n: u8) -> Result<(), Fault>
+        requires { ⌜ n ≡ switches (bytes (now self)) ⌝ }
+        ensures kept { λ _. ⌜ bytes (now (self .exit)) ≡ bytes (now (self .entry)) ⌝ }
+        ensures tells { λ r. ⌜ Tells (bytes (now (self .entry))) (flowEnds (bytes (now (self .entry))) (now (self .entry) .at)) r ⌝ }
+        ensures goes { λ r. ⌜ Going (now (self .exit)) (now (self .entry) .at + 2) r ⌝ }
+    {
+        let place = self.at;
+        let ingress = self.byte(Section::B)?;
+        let exit = self.byte(Section::B)?;
+        tested(ingress < n && exit < n, FaultKind::FlowEnds, Section::B, place)
+    }
+
+    // The count of a section that is to have so many records.
+    pub fn same_count(&mut self, section: Section, expected: u8) -> Result<(), Fault>
+        ensures kept { λ _. ⌜ bytes (now (self .exit)) ≡ bytes (now (self .entry)) ⌝ }
+        ensures tells { λ r. ⌜ Tells (bytes (now (self .entry))) (sameCount (bytes (now (self .entry))) section (now (self .entry) .at) expected) r ⌝ }
+        ensures goes { λ r. ⌜ Going (now (self .exit)) (now (self .entry) .at + 1) r ⌝ }
+    {
+        let place = self.at;
+        let count = self.byte(section)?;
+        tested(count == expected, FaultKind::SectionCount, section, place)
+    }
+
+    // The links of switch s, which were read before.
+    fn links_of(&self, s: u8) -> u64
+        requires { ⌜ linksFrom s + 8 ≤ length (bytes (now self)) ⌝ }
+        ensures { λ r. ⌜ r ≡ linksAt (bytes (now (self .entry))) s ⌝ }
+    {
+        let from = 1 + 8 * s as usize;
+        big_endian(&self.sheet[from..from + 8])
+    }
+
+    // The row of switch s, a hop for each of f flows.
+    pub fn switch_row(&mut self, section: Section, f: u8, s: u8) -> Result<(), Fault>
+        requires { ⌜ f ≡ flows (bytes (now self)) ⌝ ∗ ⌜ linksFrom s + 8 ≤ length (bytes (now self)) ⌝ }
+        ensures kept { λ _. ⌜ bytes (now (self .exit)) ≡ bytes (now (self .entry)) ⌝ }
+        ensures tells { λ r. ⌜ Tells (bytes (now (self .entry))) (switchRow (bytes (now (self .entry))) section (now (self .entry) .at) s) r ⌝ }
+        ensures goes { λ r. ⌜ Going (now (self .exit)) (now (self .entry) .at + rowSize f) r ⌝ }
+    {
+        let place = self.at;
+        let links = self.links_of(s);
+        let row = self.record(section, f)?;
+        tested(row_fits(links, row), FaultKind::Hop, section, place)
+    }
+
+    // The needed switches of a flow, among n switches.
+    pub fn needed_mask(&mut self, n: u8) -> Result<(), Fault>
+        requires { ⌜ n ≡ switches (bytes (now self)) ⌝ }
+        ensures kept { λ _. ⌜ bytes (now (self .exit)) ≡ bytes (now (self .entry)) ⌝ }
+        ensures tells { λ r. ⌜ Tells (bytes (now (self .entry))) (neededMask (bytes (now (self .entry))) (now (self .entry) .at)) r ⌝ }
+        ensures goes { λ r. ⌜ Going (now (self .exit)) (now (self .entry) .at + 8) r ⌝ }
+    {
+        let place = self.at;
+        let needed = self.mask(Section::E)?;
+        tested(mask_fits(needed, n), FaultKind::NeededMask, Section::E, place)
+    }
+}

@@ -1,0 +1,83 @@
+// Sections, each a count and then its records.
+ghost use mathlib.Core.Path.{_≡_};
+ghost use Prim.Native.Nat.{ℕ, _+_, _*_, _<_, _≤_};
+ghost use lib.ListN.{length};
+ghost use Rattle.std.specs.Vec.{made};
+ghost use Rattle.sheet.specs.Layout.{switches, linksFrom, flowsFrom, flows, endsFrom, maskFrom, sheetEnd};
+ghost use Rattle.sheet.specs.Pieces.{sectionA, sectionB, tableSection, neededSection, noMore};
+ghost use Rattle.sheet.specs.Reads.{bytes, Tells, TellsFirst, Going, Passing, TableRead};
+use crate::fault::Fault;
+use crate::fault::FaultKind;
+use crate::fault::Section;
+use crate::reader::Reader;
+use crate::rules::tested;
+
+impl<'a> Reader<'a> {
+    // Section A: the number of switches, and the links of each.
+    pub fn section_a(&mut self) -> Result<u8, Fault>
+        requires { ⌜ now self .at ≡ 0 ⌝ }
+        ensures kept { λ _. ⌜ bytes (now (self .exit)) ≡ bytes (now (self .entry)) ⌝ }
+        ensures tells { λ r. ⌜ TellsFirst (bytes (now (self .entry))) (sectionA (bytes (now (self .entry)))) r ⌝ }
+        ensures goes { λ r. ⌜ Passing (now (self .exit)) (flowsFrom (bytes (now (self .entry)))) (switches (bytes (now (self .entry)))) r ⌝ }
+        ensures few { λ r. ⌜ made r (λ n. n ≤ 64) ⌝ }
+    {
+        let n = self.switch_count()?;
+        for s in 0..n {
+            self.link_mask(n, s)?;
+        }
+        Ok(n)
+    }
+
+    // Section B: the number of flows, and the ends of each.
+    pub fn section_b(&mut self, n: u8) -> Result<u8, Fault>
+        requires { ⌜ now self .at ≡ flowsFrom (bytes (now self)) ⌝ ∗ ⌜ n ≡ switches (bytes (now self)) ⌝ }
+        ensures kept { λ _. ⌜ bytes (now (self .exit)) ≡ bytes (now (self .entry)) ⌝ }
+        ensures tells { λ r. ⌜ TellsFirst (bytes (now (self .entry))) (sectionB (bytes (now (self .entry)))) r ⌝ }
+        ensures goes { λ r. ⌜ Passing (now (self .exit)) (endsFrom (bytes (now (self .entry))) (flows (bytes (now (self .entry))))) (flows (bytes (now (self .entry)))) r ⌝ }
+    {
+        let f = self.flow_count()?;
+        for _ in 0..f {
+            self.flow_ends(n)?;
+        }
+        Ok(f)
+    }
+
+    // Section C or D: the row of each switch. Gives the rows.
+    pub fn table(&mut self, section: Section, n: u8, f: u8) -> Result<&'a [u8], Fault>
+        requires counts { ⌜ n ≡ switches (bytes (now self)) ⌝ ∗ ⌜ f ≡ flows (bytes (now self)) ⌝ }
+        requires behind { ⌜ flowsFrom (bytes (now self)) ≤ now self .at ⌝ }
+        ensures kept { λ _. ⌜ bytes (now (self .exit)) ≡ bytes (now (self .entry)) ⌝ }
+        ensures tells { λ r. ⌜ TellsFirst (bytes (now (self .entry))) (tableSection (bytes (now (self .entry))) section (now (self .entry) .at)) r ⌝ }
+        ensures goes { λ r. ⌜ TableRead (now (self .entry)) (now (self .exit)) r ⌝ }
+    {
+        let sheet = self.sheet;
+        self.same_count(section, n)?;
+        let from = self.at;
+        for s in 0..n {
+            self.switch_row(section, f, s)?;
+        }
+        Ok(&sheet[from..self.at])
+    }
+
+    // Section E: the needed switches of each flow.
+    pub fn needed(&mut self, n: u8, f: u8) -> Result<(), Fault>
+        requires counts { ⌜ n ≡ switches (bytes (now self)) ⌝ ∗ ⌜ f ≡ flows (bytes (now self)) ⌝ }
+        ensures kept { λ _. ⌜ bytes (now (self .exit)) ≡ bytes (now (self .entry)) ⌝ }
+        ensures tells { λ r. ⌜ TellsFirst (bytes (now (self .entry))) (neededSection (bytes (now (self .entry))) (now (self .entry) .at)) r ⌝ }
+        ensures goes { λ r. ⌜ Going (now (self .exit)) (maskFrom (now (self .entry) .at) f) r ⌝ }
+    {
+        self.same_count(Section::E, f)?;
+        for _ in 0..f {
+            self.needed_mask(n)?;
+        }
+        Ok(())
+    }
+
+    // No byte follows section E.
+    pub fn no_more(&self) -> Result<(), Fault>
+        requires { ⌜ now self .at ≡ sheetEnd (bytes (now self)) ⌝ }
+        ensures { λ r. ⌜ Tells (bytes (now (self .entry))) (noMore (bytes (now (self .entry)))) r ⌝ }
+    {
+        tested(self.sheet.len() <= self.at, FaultKind::BytesFollow, Section::E, self.at)
+    }
+}
