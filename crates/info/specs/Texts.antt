@@ -13,3 +13,21 @@ use Rattle.sheet.specs.Pieces.{firstFault}
 -- a fault: "refused", its number, its section's letter and its place
 abbrev pub refusedText : Fault → List ℕ
 refusedText e = codes "refused " ++ (decimal (numberOf (e .kind)) ++ (codes " " ++ ((letterOf (e .section) ∷ []) ++ (codes " " ++ (decimal (e .place) ++ codes "\n")))))
+
+-- the movers, each after one blank
+abbrev pub moversText : List ℕ → List ℕ
+moversText [] = []
+moversText (s ∷ ss) = codes " " ++ (decimal s ++ moversText ss)
+
+-- a lawful sheet: its numbers of switches and of flows, and its movers, rising
+abbrev pub summaryText : List ℕ → List ℕ
+summaryText bs = codes "switches " ++ (decimal (switches bs) ++ (codes "\nflows " ++ (decimal (flows bs) ++ (codes "\nmovers" ++ (moversText (moversOf bs) ++ codes "\n")))))
+
+-- the fault where there is one, else the summary
+abbrev pub toldText : List ℕ → Option Fault → List ℕ
+toldText bs None = summaryText bs
+toldText bs (Some e) = refusedText e
+
+-- what is told of a sheet
+abbrev pub infoText : List ℕ → List ℕ
+infoText bs = toldText bs (firstFault bs)

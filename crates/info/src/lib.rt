@@ -1,8 +1,14 @@
 // What there is to tell of a sheet, as text.
 ghost use mathlib.Core.Path.{_≡_};
+ghost use mathlib.Core.List.{_++_};
+ghost use lib.Chars.{codes};
+ghost use Rattle.std.specs.Written.{decimal};
 ghost use Rattle.std.specs.Of.String.{string-bytes};
 ghost use Rattle.std.specs.Vec.{made};
-ghost use Rattle.info.specs.Texts.{refusedText};
+ghost use Rattle.sets.specs.Sets.{members};
+ghost use Rattle.info.specs.Texts.{refusedText, moversText, summaryText, infoText};
+use sheet::case::Case;
+use sheet::case::read;
 use sheet::fault::Fault;
 use std::alloc::AllocError;
 use std::alloc::Global;
@@ -15,4 +21,46 @@ pub fn refused(heap: Global, fault: &Fault) -> Result<String, AllocError>
     let letter = fault.letter();
     let place = fault.place;
     format!(heap, "refused {number} {letter} {place}\n")
+}
+
+// One blank more, and a number.
+fn add_word(heap: Global, text: &mut String, s: u8) -> Result<(), AllocError>
+    ensures { λ r. ⌜ made r (λ _. string-bytes (now (text .exit)) ≡ string-bytes (now (text .entry)) ++ (codes " " ++ decimal s)) ⌝ }
+{
+    let word = format!(heap, " {s}")?;
+    text.push_str(word.as_str())
+}
+
+// The switches of a set, rising, each after one blank.
+fn switch_list(heap: Global, set: u64) -> Result<String, AllocError>
+    ensures { λ r. ⌜ made r (λ t. string-bytes t ≡ moversText (members set)) ⌝ }
+{
+    let mut text = String::new(heap);
+    for s in 0..64u8 {
+        if sets::has(set, s) {
+            add_word(heap, &mut text, s)?;
+        }
+    }
+    Ok(text)
+}
+
+// The lines for a lawful sheet.
+pub fn summary(heap: Global, case: &Case) -> Result<String, AllocError>
+    ensures { λ r. ⌜ made r (λ t. string-bytes t ≡ summaryText (now (now (case .entry) .sheet))) ⌝ }
+{
+    let switches = case.switches();
+    let flows = case.flows();
+    let movers = switch_list(heap, case.movers())?;
+    format!(heap, "switches {switches}\nflows {flows}\nmovers{movers}\n")
+}
+
+// What is told of a sheet: its numbers, or its first fault.
+pub fn describe(heap: Global, sheet: &[u8]) -> Result<String, AllocError>
+    ensures { λ r. ⌜ made r (λ t. string-bytes t ≡ infoText (now (sheet .entry))) ⌝ }
+{
+    let mut case = Case::smallest();
+    match read(sheet, &mut case) {
+        Ok(()) => summary(heap, &case),
+        Err(fault) => refused(heap, &fault),
+    }
 }

@@ -208,6 +208,10 @@ counting-split a (suc i) k =
     let s : a + 1 + i ≡ a + suc i = omega arith in
     ap (counting a) e ∙ ap (λ xs. a ∷ xs) (counting-split (a + 1) i k ∙ ap (λ b. counting (a + 1) i ++ counting b k) s)
 
+-- one number more
+pub kept-more : (p : ℕ → Bool) (s : ℕ) → kept-by p (counting 0 (s + 1)) ≡ kept-by p (counting 0 s) ++ cond (p s) (s ∷ []) []
+kept-more p s = ap (kept-by p) (counting-split 0 s 1) ∙ kept-by-append p (counting 0 s) (counting (0 + s) 1) ∙ ap (λ t. kept-by p (counting 0 s) ++ cond (p t) (t ∷ []) []) (zero-add s)
+
 pub chosen-members : (m : ℕ) (p : ℕ → Bool) (n : ℕ) → n ≤ 64 → Chosen m p n → members m ≡ kept-by p (counting 0 n)
 unfolding members
 chosen-members m p n small only =

@@ -1,0 +1,60 @@
+-- The lines as `format!` writes them.
+use mathlib.Core.Path.{_≡_, refl, sym, ap, _∙_}
+use mathlib.Core.Bool.{Bool, true, false, cond}
+use mathlib.Core.List.{List, [], _∷_, _++_}
+use Prim.Native.Nat.{ℕ, _+_}
+use lib.Chars.{codes}
+use lib.Dec.{eqb}
+use lib.Utf8.{encode}
+use Rattle.std.specs.Iters.{counting}
+use Rattle.std.specs.Written.{decimal}
+use Rattle.std.specs.shelf.Lists.{kept-by}
+use Rattle.std.proofs.shelf.Lists.{append-nil, append-assoc}
+use Rattle.std.proofs.shelf.Tests.{eq-eqb, ne-eqb}
+use Rattle.sets.specs.Sets.{bit, Member, members}
+use Rattle.sets.proofs.Laws.{kept-more}
+use Rattle.sheet.specs.declared.fault.Fault.{Fault}
+use Rattle.sheet.specs.declared.fault.Section.{Section}
+use Rattle.sheet.specs.declared.fault.Section.the-variants.{A, B, C, D, E}
+use Rattle.sheet.specs.Faults.{numberOf, letterOf}
+use Rattle.info.specs.Texts.{refusedText, moversText}
+
+letter-text : (s : Section) → encode (letterOf s) ≡ letterOf s ∷ []
+unfolding encode
+letter-text A = refl
+letter-text B = refl
+letter-text C = refl
+letter-text D = refl
+letter-text E = refl
+
+pub refused-line : (e : Fault) (number letter : ℕ) → number ≡ numberOf (e .kind) → letter ≡ letterOf (e .section) → codes "refused " ++ (decimal number ++ (codes " " ++ (encode letter ++ (codes " " ++ (decimal (e .place) ++ codes "\n"))))) ≡ refusedText e
+refused-line e number letter en el =
+    ap (λ n. codes "refused " ++ (decimal n ++ (codes " " ++ (encode letter ++ (codes " " ++ (decimal (e .place) ++ codes "\n")))))) en
+    ∙ ap (λ l. codes "refused " ++ (decimal (numberOf (e .kind)) ++ (codes " " ++ (l ++ (codes " " ++ (decimal (e .place) ++ codes "\n")))))) (ap encode el ∙ letter-text (e .section))
+
+-- one mover more
+movers-push : (ms : List ℕ) (s : ℕ) → moversText (ms ++ (s ∷ [])) ≡ moversText ms ++ (codes " " ++ decimal s)
+movers-push [] s = ap (λ d. codes " " ++ d) (append-nil (decimal s))
+movers-push (m ∷ ms) s =
+    ap (λ t. codes " " ++ (decimal m ++ t)) (movers-push ms s)
+    ∙ ap (λ t. codes " " ++ t) (sym (append-assoc (decimal m) (moversText ms) (codes " " ++ decimal s)))
+
+-- the text of the members below s, and then of those below s + 1
+abbrev pub Spelt : ℕ → ℕ → List ℕ → Type 0
+Spelt set s text = text ≡ moversText (kept-by (λ t. eqb (bit set t) 1) (counting 0 s))
+
+next : (set s : ℕ) (b : Bool) → eqb (bit set s) 1 ≡ b → kept-by (λ t. eqb (bit set t) 1) (counting 0 (s + 1)) ≡ kept-by (λ t. eqb (bit set t) 1) (counting 0 s) ++ cond b (s ∷ []) []
+next set s b e = kept-more (λ t. eqb (bit set t) 1) s ∙ ap (λ x. kept-by (λ t. eqb (bit set t) 1) (counting 0 s) ++ cond x (s ∷ []) []) e
+
+pub spelt-with : (set s : ℕ) (text new : List ℕ) → Spelt set s text → Member set s → new ≡ text ++ (codes " " ++ decimal s) → Spelt set (s + 1) new
+spelt-with set s text new before in′ put =
+    put ∙ ap (λ t. t ++ (codes " " ++ decimal s)) before ∙ sym (movers-push (kept-by (λ t. eqb (bit set t) 1) (counting 0 s)) s)
+    ∙ sym (ap moversText (next set s true (eq-eqb (bit set s) 1 in′)))
+
+pub spelt-skip : (set s : ℕ) (text : List ℕ) → Spelt set s text → (Member set s → ⊥) → Spelt set (s + 1) text
+spelt-skip set s text before out =
+    before ∙ ap moversText (sym (append-nil (kept-by (λ t. eqb (bit set t) 1) (counting 0 s)))) ∙ sym (ap moversText (next set s false (ne-eqb (bit set s) 1 out)))
+
+pub spelt-all : (set : ℕ) (text : List ℕ) → Spelt set 64 text → text ≡ moversText (members set)
+unfolding members
+spelt-all set text h = h
