@@ -41,9 +41,9 @@ exactly-one a b ea eb = same-members a b (λ s h. eb .all s (ea .each s h)) (λ 
 -- union
 pub or-members : (a b : ℕ) → Exactly (bitOr a b) (λ t. Member a t ⊎ Member b t)
 or-members a b = record {
-    each = λ t h. elim (cases-member a t) [ inl k ↦ inl k | inr z ↦ inr (omega (arith, bit-or a b t, h)) ];
-    all = λ t h. elim h [ inl k ↦ omega (arith, bit-or a b t, k) | inr k ↦ omega (arith, bit-or a b t, k) ];
-  }
+  each = λ t h. elim (cases-member a t) [ inl k ↦ inl k | inr z ↦ inr (omega (arith, bit-or a b t, h)) ];
+  all = λ t h. elim h [ inl k ↦ omega (arith, bit-or a b t, k) | inr k ↦ omega (arith, bit-or a b t, k) ];
+}
 
 -- the set of one switch
 pub one-member : (s t : ℕ) → Member (2 ^ s) t → t ≡ s
@@ -52,9 +52,9 @@ one-member s t h = elim (cases-eq s t) [ inl e ↦ sym e | inr ne ↦ absurd (no
 -- one switch more
 pub with-members : (m s : ℕ) → Exactly (bitOr m (2 ^ s)) (λ t. Member m t ⊎ (t ≡ s))
 with-members m s = record {
-    each = λ t h. elim (or-members m (2 ^ s) .each t h) [ inl k ↦ inl k | inr k ↦ inr (one-member s t k) ];
-    all = λ t h. or-members m (2 ^ s) .all t (elim h [ inl k ↦ inl k | inr e ↦ inr (ap (bit (2 ^ s)) e ∙ bit-one s) ]);
-  }
+  each = λ t h. elim (or-members m (2 ^ s) .each t h) [ inl k ↦ inl k | inr k ↦ inr (one-member s t k) ];
+  all = λ t h. or-members m (2 ^ s) .all t (elim h [ inl k ↦ inl k | inr e ↦ inr (ap (bit (2 ^ s)) e ∙ bit-one s) ]);
+}
 
 -- one switch less
 bit-without : (m s t : ℕ) → s ≢ t → bit (bitXor (bitOr m (2 ^ s)) (2 ^ s)) t ≡ bit m t
@@ -65,31 +65,31 @@ bit-gone m s = omega (arith, bit-xor (bitOr m (2 ^ s)) (2 ^ s) s, bit-or m (2 ^ 
 
 pub without-members : (m s : ℕ) → Exactly (bitXor (bitOr m (2 ^ s)) (2 ^ s)) (λ t. Member m t × (t ≡ s → ⊥))
 without-members m s = record {
-    each = λ t h. elim (cases-eq s t) [
-      | inl e ↦ absurd (no-member (bitXor (bitOr m (2 ^ s)) (2 ^ s)) t (ap (bit (bitXor (bitOr m (2 ^ s)) (2 ^ s))) (sym e) ∙ bit-gone m s) h)
-      | inr ne ↦ (sym (bit-without m s t ne) ∙ h, (λ e. ne (sym e)))
-    ];
-    all = λ t h. bit-without m s t (λ e. h .1 (sym e)) ∙ h .0;
-  }
+  each = λ t h. elim (cases-eq s t) [
+    | inl e ↦ absurd (no-member (bitXor (bitOr m (2 ^ s)) (2 ^ s)) t (ap (bit (bitXor (bitOr m (2 ^ s)) (2 ^ s))) (sym e) ∙ bit-gone m s) h)
+    | inr ne ↦ (sym (bit-without m s t ne) ∙ h, (λ e. ne (sym e)))
+  ];
+  all = λ t h. bit-without m s t (λ e. h .1 (sym e)) ∙ h .0;
+}
 
 -- part of, apart, the same, by the tests of the code
 pub part-test : (a b : ℕ) → Decides (eqb (bitOr a b) b) (PartOf a b)
 part-test a b = (
-    (λ e t h. ap (λ m. bit m t) (sym (eqb-true (bitOr a b) b e)) ∙ or-members a b .all t (inl h)),
-    (λ p. eq-eqb (bitOr a b) b (same-members (bitOr a b) b (λ t h. elim (or-members a b .each t h) [ inl k ↦ p t k | inr k ↦ k ]) (λ t h. or-members a b .all t (inr h)))),
-  )
+  (λ e t h. ap (λ m. bit m t) (sym (eqb-true (bitOr a b) b e)) ∙ or-members a b .all t (inl h)),
+  (λ p. eq-eqb (bitOr a b) b (same-members (bitOr a b) b (λ t h. elim (or-members a b .each t h) [ inl k ↦ p t k | inr k ↦ k ]) (λ t h. or-members a b .all t (inr h)))),
+)
 
 pub apart-test : (a b : ℕ) → Decides (eqb (bitAnd a b) 0) (Apart a b)
 apart-test a b = (
-    (λ e t h k. omega (arith, bit-and a b t, ap (λ m. bit m t) (eqb-true (bitAnd a b) 0 e), bit-zero t, h, k)),
-    (λ p. eq-eqb (bitAnd a b) 0 (no-bits (bitAnd a b) (λ t. elim (cases-member a t) [ inl h ↦ omega (arith, bit-and a b t, not-member b t (p t h)) | inr z ↦ omega (arith, bit-and a b t, z) ]))),
-  )
+  (λ e t h k. omega (arith, bit-and a b t, ap (λ m. bit m t) (eqb-true (bitAnd a b) 0 e), bit-zero t, h, k)),
+  (λ p. eq-eqb (bitAnd a b) 0 (no-bits (bitAnd a b) (λ t. elim (cases-member a t) [ inl h ↦ omega (arith, bit-and a b t, not-member b t (p t h)) | inr z ↦ omega (arith, bit-and a b t, z) ]))),
+)
 
 pub same-test : (a b : ℕ) → Decides (eqb a b) (SameMembers a b)
 same-test a b = (
-    (λ e. let q = eqb-true a b e in record { there = λ t h. ap (λ m. bit m t) (sym q) ∙ h; back = λ t h. ap (λ m. bit m t) q ∙ h }),
-    (λ p. eq-eqb a b (same-members a b (p .there) (p .back))),
-  )
+  (λ e. let q = eqb-true a b e in record { there = λ t h. ap (λ m. bit m t) (sym q) ∙ h; back = λ t h. ap (λ m. bit m t) q ∙ h }),
+  (λ p. eq-eqb a b (same-members a b (p .there) (p .back))),
+)
 
 -- a set below n is a number below 2 ^ n
 pub below-quotient : (n m : ℕ) → AllBelow n m → m / 2 ^ n ≡ 0
@@ -100,8 +100,8 @@ below-members n m z s h =
     elim (cases-lt s n) [
       | inl l ↦ l
       | inr ge ↦
-        let at : n + (s - n) ≡ s = omega arith in
-        absurd (no-member m s (ap (bit m) (sym at) ∙ sym (bit-shr m n (s - n)) ∙ ap (λ k. bit k (s - n)) z ∙ bit-zero (s - n)) h)
+          let at : n + (s - n) ≡ s = omega arith in
+          absurd (no-member m s (ap (bit m) (sym at) ∙ sym (bit-shr m n (s - n)) ∙ ap (λ k. bit k (s - n)) z ∙ bit-zero (s - n)) h)
     ]
 
 pub below-test : (n m : ℕ) → Decides (eqb (m / 2 ^ n) 0) (AllBelow n m)
@@ -175,18 +175,18 @@ chosen-none p = record { each = λ t h. absurd (omega (arith, h, bit-zero t)); a
 
 pub chosen-with : (m r : ℕ) (p : ℕ → Bool) (n : ℕ) → n < 64 → Chosen m p n → p n ≡ true → Exactly r (λ t. Member m t ⊎ ((t ≡ n) × (n < 64))) → Chosen r p (n + 1)
 chosen-with m r p n small before here put = record {
-    each = λ t h. elim (put .each t h) [
-      | inl k ↦ (omega (arith, before .each t k .0), before .each t k .1)
-      | inr e ↦ (omega (arith, e .0), ap p (e .0) ∙ here)
-    ];
-    all = λ t h. put .all t (elim (cases-eq t n) [ inl e ↦ inr (e, small) | inr ne ↦ inl (before .all t (omega (arith, h .0), h .1)) ]);
-  }
+  each = λ t h. elim (put .each t h) [
+    | inl k ↦ (omega (arith, before .each t k .0), before .each t k .1)
+    | inr e ↦ (omega (arith, e .0), ap p (e .0) ∙ here)
+  ];
+  all = λ t h. put .all t (elim (cases-eq t n) [ inl e ↦ inr (e, small) | inr ne ↦ inl (before .all t (omega (arith, h .0), h .1)) ]);
+}
 
 pub chosen-skip : (m : ℕ) (p : ℕ → Bool) (n : ℕ) → Chosen m p n → p n ≡ false → Chosen m p (n + 1)
 chosen-skip m p n before here = record {
-    each = λ t h. (omega (arith, before .each t h .0), before .each t h .1);
-    all = λ t h. before .all t (elim (cases-eq t n) [ inl e ↦ absurd (both-ways (p n) here (ap p (sym e) ∙ h .1)) | inr ne ↦ omega (arith, h .0) ], h .1);
-  }
+  each = λ t h. (omega (arith, before .each t h .0), before .each t h .1);
+  all = λ t h. before .all t (elim (cases-eq t n) [ inl e ↦ absurd (both-ways (p n) here (ap p (sym e) ∙ h .1)) | inr ne ↦ omega (arith, h .0) ], h .1);
+}
 
 -- its members, rising
 kept-same : (p q : ℕ → Bool) (k a : ℕ) → ((t : ℕ) → a ≤ t → t < a + k → p t ≡ q t) → kept-by p (counting a k) ≡ kept-by q (counting a k)

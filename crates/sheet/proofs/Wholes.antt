@@ -15,7 +15,7 @@ use Rattle.sheet.specs.declared.fault.Section.{Section}
 use Rattle.sheet.specs.declared.fault.Section.the-variants.{C, D}
 use Rattle.std.proofs.shelf.Tests.{le-leb}
 use Rattle.sheet.specs.Faults.{faultOf}
-use Rattle.sheet.specs.Tables.{movers}
+use Rattle.records.specs.Tables.{movers}
 use Rattle.sheet.specs.Layout.{switches, flows, flowsFrom, endsFrom, rowFrom, tableAt, oldFrom, newFrom, neededFrom, oldTable, newTable, moversOf}
 use Rattle.sheet.specs.Pieces.{Piece, wrong, orElse, firstWrong, sectionA, sectionB, tableSection, neededSection, noMore, fewMovers, pieces, firstFault, failing, testOf}
 use Rattle.sheet.proofs.Firsts.{first-append}

@@ -3,23 +3,15 @@ use mathlib.Core.Bool.{cond}
 use mathlib.Core.List.{List, [], _∷_}
 use Prim.Native.Nat.{ℕ, _+_, _*_}
 use lib.Dec.{ltb}
-use lib.ListN.{getD, take, drop}
+use lib.ListN.{getD}
 use Rattle.std.specs.declared.option.Option.{Option}
 use Rattle.std.specs.declared.option.Option.the-variants.{Some, None}
-use Rattle.std.specs.shelf.Digits.{number}
-use Rattle.sheet.specs.Tables.{rowSize, movers}
+use Rattle.records.specs.Masks.{bytesAt, maskAt}
+use Rattle.records.specs.Tables.{rowSize, movers}
 
 -- the byte at place p
 abbrev pub byteAt : List ℕ → ℕ → ℕ
 byteAt bs p = getD bs p 0
-
--- the k bytes from place p on
-abbrev pub bytesAt : List ℕ → ℕ → ℕ → List ℕ
-bytesAt bs p k = take k (drop p bs)
-
--- the mask of eight bytes at place p, the most significant byte first
-abbrev pub maskAt : List ℕ → ℕ → ℕ
-maskAt bs p = number 256 (bytesAt bs p 8)
 
 -- section A: the number of switches, then the links of each, a set of switches
 abbrev pub switches : List ℕ → ℕ

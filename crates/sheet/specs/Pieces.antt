@@ -1,23 +1,23 @@
 -- The sheet as a list of its pieces in reading order, each with its place, its size and its tests. A piece is a record of the sheet (a count, a mask, a pair or a row) or one of the two tests that close the reading. The first piece that fails gives the fault.
 use mathlib.Core.Path.{_≡_}
-use mathlib.Core.Bool.{Bool, true, false, cond, not, _&&_}
+use mathlib.Core.Bool.{Bool, true, false, cond, _&&_}
 use mathlib.Core.List.{List, [], _∷_, _++_, map}
-use Prim.Native.Nat.{ℕ, _+_, _^_, _<_, _≤_}
+use Prim.Native.Nat.{ℕ, _+_, _<_, _≤_}
 use lib.Dec.{leb, ltb, eqb}
 use lib.ListN.{length}
 use Rattle.std.specs.Iters.{counting}
 use Rattle.std.specs.shelf.Lists.{All}
 use Rattle.std.specs.declared.option.Option.{Option}
 use Rattle.std.specs.declared.option.Option.the-variants.{Some, None}
-use Rattle.sets.specs.Sets.{bit}
+use Rattle.records.specs.Masks.{bytesAt, maskAt, within, maskFits, linksFit}
+use Rattle.records.specs.Tables.{rowSize, rowFits}
 use Rattle.sheet.specs.declared.fault.FaultKind.{FaultKind}
 use Rattle.sheet.specs.declared.fault.FaultKind.the-variants.{EndsTooSoon, SwitchCount, LinkMask, FlowCount, FlowEnds, SectionCount, Hop, NeededMask, BytesFollow, TooManyMovers}
 use Rattle.sheet.specs.declared.fault.Section.{Section}
 use Rattle.sheet.specs.declared.fault.Section.the-variants.{A, B, C, D, E}
 use Rattle.sheet.specs.declared.fault.Fault.{Fault}
 use Rattle.sheet.specs.Faults.{faultOf}
-use Rattle.sheet.specs.Layout.{byteAt, bytesAt, maskAt, switches, linksFrom, links, flowsFrom, flows, endsFrom, rowFrom, oldFrom, newFrom, neededFrom, maskFrom, sheetEnd, moversOf}
-use Rattle.sheet.specs.Tables.{rowSize, rowFits}
+use Rattle.sheet.specs.Layout.{byteAt, switches, linksFrom, links, flowsFrom, flows, endsFrom, rowFrom, oldFrom, newFrom, neededFrom, maskFrom, sheetEnd, moversOf}
 
 -- a test of a piece: whether it passes, and the kind of fault where it does not
 pub record Test : Type 0 where
@@ -57,18 +57,6 @@ testOf k b = record { kind = k; passes = b } ∷ []
 -- a piece of one test
 abbrev pub piece : Section → ℕ → ℕ → FaultKind → Bool → Piece
 piece s p k kind passes = record { from = p; size = k; section = s; tests = testOf kind passes }
-
--- a number from 1 to most
-abbrev pub within : ℕ → ℕ → Bool
-within most k = ltb 0 k && leb k most
-
--- every member of the set m is below n
-abbrev pub maskFits : ℕ → ℕ → Bool
-maskFits n m = ltb m (2 ^ n)
-
--- the links m of switch s of n: not to itself, and to none that is not below n
-abbrev pub linksFit : ℕ → ℕ → ℕ → Bool
-linksFit n s m = not (eqb (bit m s) 1) && maskFits n m
 
 abbrev pub switchCount : List ℕ → Piece
 switchCount bs = piece A 0 1 SwitchCount (within 64 (switches bs))

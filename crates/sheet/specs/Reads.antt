@@ -11,7 +11,8 @@ use Rattle.sheet.specs.declared.fault.Section.{Section}
 use Rattle.sheet.specs.declared.fault.Fault.{Fault}
 use Rattle.sheet.specs.declared.reader.Reader.{Reader}
 use Rattle.sheet.specs.Faults.{faultOf, toldBy}
-use Rattle.sheet.specs.Layout.{byteAt, bytesAt, maskAt, switches, rowFrom, tableAt}
+use Rattle.records.specs.Masks.{bytesAt, maskAt}
+use Rattle.sheet.specs.Layout.{byteAt, switches, rowFrom, tableAt}
 use Rattle.sheet.specs.Pieces.{Piece, wrong, firstWrong}
 
 -- the bytes of the sheet that is read

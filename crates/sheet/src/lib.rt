@@ -1,6 +1,7 @@
-// Reads a sheet, judges it, and hands it out as a case.
-pub mod case;
+// Reads a sheet and judges it: its numbers, or its first fault.
 pub mod fault;
 mod reader;
-mod rules;
-mod tables;
+mod tested;
+
+pub use reader::whole::Numbers;
+pub use reader::whole::read_numbers;

@@ -10,6 +10,6 @@ returns-then-s-lt-WIDTH c = rw (one-shl (c .args .s) 64 (c .if-s-lt-WIDTH .taken
 
 pub returns-else-s-lt-WIDTH : need.returns-else-s-lt-WIDTH
 returns-else-s-lt-WIDTH c = record {
-    each = λ t h. (h, (λ e. omega (arith, number-below 64 (c .args .set) (omega arith) t h)));
-    all = λ t h. h .0;
-  }
+  each = λ t h. (h, (λ e. omega (arith, number-below 64 (c .args .set) (omega arith) t h)));
+  all = λ t h. h .0;
+}

@@ -5,18 +5,18 @@ ghost use lib.ListN.{length};
 ghost use Rattle.std.specs.Vec.{made};
 ghost use Rattle.sheet.specs.Layout.{switches, linksFrom, links as linksAt, flowsFrom, flows, endsFrom};
 ghost use Rattle.sheet.specs.Pieces.{switchCount, linkMask, flowCount, flowEnds, sameCount, switchRow, neededMask};
-ghost use Rattle.sheet.specs.Tables.{rowSize};
+ghost use Rattle.records.specs.Tables.{rowSize};
 ghost use Rattle.sheet.specs.Reads.{bytes, ByteRead, BytesRead, MaskRead, Tells, Going, Passing};
 use crate::fault::Fault;
 use crate::fault::FaultKind;
 use crate::fault::Section;
 use crate::reader::Reader;
-use crate::rules::big_endian;
-use crate::rules::links_fit;
-use crate::rules::mask_fits;
-use crate::rules::row_fits;
-use crate::rules::tested;
-use crate::rules::within;
+use crate::tested::tested;
+use records::links_fit;
+use records::mask_at;
+use records::mask_fits;
+use records::row_fits;
+use records::within;
 
 impl<'a> Reader<'a> {
     // The next byte, which belongs to the section.
@@ -54,8 +54,9 @@ impl<'a> Reader<'a> {
         ensures kept { λ _. ⌜ bytes (now (self .exit)) ≡ bytes (now (self .entry)) ⌝ }
         ensures reads { λ r. ⌜ MaskRead (now (self .entry)) (now (self .exit)) section r ⌝ }
     {
-        let eight = self.record(section, 8)?;
-        Ok(big_endian(eight))
+        let place = self.at;
+        self.record(section, 8)?;
+        Ok(mask_at(self.sheet, place).unwrap_or(0))
     }
 
     // The number of switches.
@@ -80,7 +81,12 @@ impl<'a> Reader<'a> {
     {
         let place = self.at;
         let links = self.mask(Section::A)?;
-        tested(links_fit(links, n, s), FaultKind::LinkMask, Section::A, place)
+        tested(
+            links_fit(links, n, s),
+            FaultKind::LinkMask,
+            Section::A,
+            place,
+        )
     }
 
     // The number of flows.
@@ -106,7 +112,12 @@ impl<'a> Reader<'a> {
         let place = self.at;
         let ingress = self.byte(Section::B)?;
         let exit = self.byte(Section::B)?;
-        tested(ingress < n && exit < n, FaultKind::FlowEnds, Section::B, place)
+        tested(
+            ingress < n && exit < n,
+            FaultKind::FlowEnds,
+            Section::B,
+            place,
+        )
     }
 
     // The count of a section that is to have so many records.
@@ -125,8 +136,7 @@ impl<'a> Reader<'a> {
         requires { ⌜ linksFrom s + 8 ≤ length (bytes (now self)) ⌝ }
         ensures { λ r. ⌜ r ≡ linksAt (bytes (now (self .entry))) s ⌝ }
     {
-        let from = 1 + 8 * s as usize;
-        big_endian(&self.sheet[from..from + 8])
+        mask_at(self.sheet, 1 + 8 * s as usize).unwrap_or(0)
     }
 
     // The row of switch s, a hop for each of f flows.
@@ -151,6 +161,11 @@ impl<'a> Reader<'a> {
     {
         let place = self.at;
         let needed = self.mask(Section::E)?;
-        tested(mask_fits(needed, n), FaultKind::NeededMask, Section::E, place)
+        tested(
+            mask_fits(needed, n),
+            FaultKind::NeededMask,
+            Section::E,
+            place,
+        )
     }
 }

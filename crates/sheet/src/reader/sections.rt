@@ -10,7 +10,7 @@ use crate::fault::Fault;
 use crate::fault::FaultKind;
 use crate::fault::Section;
 use crate::reader::Reader;
-use crate::rules::tested;
+use crate::tested::tested;
 
 impl<'a> Reader<'a> {
     // Section A: the number of switches, and the links of each.
@@ -78,6 +78,11 @@ impl<'a> Reader<'a> {
         requires { ⌜ now self .at ≡ sheetEnd (bytes (now self)) ⌝ }
         ensures { λ r. ⌜ Tells (bytes (now (self .entry))) (noMore (bytes (now (self .entry)))) r ⌝ }
     {
-        tested(self.sheet.len() <= self.at, FaultKind::BytesFollow, Section::E, self.at)
+        tested(
+            self.sheet.len() <= self.at,
+            FaultKind::BytesFollow,
+            Section::E,
+            self.at,
+        )
     }
 }

@@ -8,7 +8,7 @@ ghost use Rattle.sheet.specs.Pieces.{firstFault};
 use crate::fault::Fault;
 use crate::fault::Section;
 use crate::reader::Reader;
-use crate::tables::few_movers;
+use crate::tested::few_movers;
 
 // The numbers of a lawful sheet: its switches, its flows, and the set of its movers.
 #[derive(Clone, Copy)]

@@ -7,10 +7,11 @@ use lib.ListN.{length, take, drop}
 use Rattle.std.specs.declared.option.Option.the-variants.{Some, None}
 use Rattle.std.proofs.shelf.Results.{err-from-errBy}
 use Rattle.sheet.specs.declared.fault.Section.{Section}
-use Rattle.sheet.specs.Layout.{bytesAt, switches, flows}
+use Rattle.records.specs.Masks.{bytesAt}
+use Rattle.sheet.specs.Layout.{switches, flows}
 use Rattle.sheet.specs.Pieces.{Piece, tableSection, sameCount, switchRow, wrong, firstWrong, counted}
 use Rattle.sheet.specs.Reads.{bytes}
-use Rattle.sheet.specs.Tables.{rowSize}
+use Rattle.records.specs.Tables.{rowSize}
 use Rattle.sheet.proofs.Firsts.{section-count, section-item, section-more, section-pass}
 use Rattle.sheet.proofs.reader.Reader.table.Needs as need
 

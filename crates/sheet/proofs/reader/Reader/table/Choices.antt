@@ -4,7 +4,7 @@ use lib.ListN.{length}
 use Rattle.sheet.specs.Layout.{flows}
 use Rattle.sheet.specs.Pieces.{switchRow}
 use Rattle.sheet.specs.Reads.{bytes}
-use Rattle.sheet.specs.Tables.{rowSize}
+use Rattle.records.specs.Tables.{rowSize}
 use Rattle.sheet.proofs.Firsts.{Clear}
 use Rattle.sheet.proofs.reader.Reader.table.Given as given
 

@@ -1,0 +1,3 @@
+pub mod Lawfuls
+pub mod Relations
+pub mod Laws

@@ -1,0 +1,64 @@
+-- Rows of a table, and what it is for the two rows of a switch to differ.
+use mathlib.Core.Path.{_≡_, refl, sym, ap, _∙_}
+use mathlib.Core.Bool.{Bool, true, false, not, _&&_}
+use mathlib.Core.Logic.{inl, inr}
+use mathlib.Core.List.{List, [], _∷_}
+use Prim.Native.Nat.{ℕ, zero, suc, _+_, _-_, _*_, _≤_, _<_, min}
+use native.Mathlib.Nat.{add-mul, one-mul, mul-le-mul-right}
+use native.Mathlib.Numerals.{add-one}
+use native.Mathlib.Omega.{arith}
+use lib.Dec.{eqb}
+use lib.ListN.{length, getD, take, drop}
+use Rattle.std.specs.shelf.Text.{sameBytes}
+use Rattle.std.proofs.shelf.Equals.{sameBytes-decides}
+use Rattle.std.proofs.shelf.Lists.{getD-take, getD-drop, length-take, length-drop}
+use Rattle.std.proofs.shelf.Tests.{and-cases, eqb-false, not-true, not-from-false, cases-bool, both-ways}
+use Rattle.sets.specs.Sets.{Exactly}
+use Rattle.sets.proofs.Laws.{Chosen}
+use Rattle.records.specs.Tables.{rowSize, tableRow, hopAt, Mover, moves}
+
+-- the row of a switch below n lies within a table of n rows
+pub row-inside : (n f s size : ℕ) → s < n → n * f ≤ size → s * f + f ≤ size
+row-inside n f s size h all = omega (arith, mul-le-mul-right {m = s + 1} {n = n} f (omega arith), add-mul s 1 f)
+
+pub row-hop : (f : ℕ) (table : List ℕ) (s j : ℕ) → j < f → getD (tableRow f table s) j 0 ≡ hopAt f table s j
+row-hop f table s j h = getD-take f (drop (s * f) table) j 0 h ∙ getD-drop (s * f) table j 0
+
+row-length : (f : ℕ) (table : List ℕ) (s : ℕ) → s * f + f ≤ length table → length (tableRow f table s) ≡ f
+row-length f table s h = length-take f (drop (s * f) table) ∙ omega (arith, length-drop (s * f) table)
+
+-- lists that are not the same differ at some place
+parted : (xs ys : List ℕ) → length xs ≡ length ys → sameBytes xs ys ≡ false → (j : ℕ) × (j < length xs) × (getD xs j 0 ≡ getD ys j 0 → ⊥)
+parted [] [] l e = absurd (let z : _≡_ {A = ℕ} 0 1 = cc in omega arith)
+parted [] (y ∷ ys) l e = absurd (omega arith)
+parted (x ∷ xs) [] l e = absurd (omega arith)
+parted (x ∷ xs) (y ∷ ys) l e =
+    elim (and-cases (eqb x y) (sameBytes xs ys) e) [
+      | inl head ↦ (0, omega arith, eqb-false x y head)
+      | inr tail ↦ let p = parted xs ys (omega arith) tail in (suc (p .0), omega (arith, p .1), p .2)
+    ]
+
+module _ (n f : ℕ) (old new : List ℕ) (in-old : n * f ≤ length old) (in-new : n * f ≤ length new) where
+  pub mover-from-moves : (s : ℕ) → s < n → moves f old new s ≡ true → Mover n f old new s
+  mover-from-moves s h e =
+      let lo = row-length f old s (row-inside n f s (length old) h in-old) in
+      let ln = row-length f new s (row-inside n f s (length new) h in-new) in
+      let p = parted (tableRow f old s) (tableRow f new s) (lo ∙ sym ln) (not-true (sameBytes (tableRow f old s) (tableRow f new s)) e) in
+      let less : p .0 < f = omega (arith, p .1, lo) in
+      record { inside = h; place = (p .0, less, (λ same. p .2 (row-hop f old s (p .0) less ∙ same ∙ sym (row-hop f new s (p .0) less)))) }
+
+  pub moves-from-mover : (s : ℕ) → Mover n f old new s → moves f old new s ≡ true
+  moves-from-mover s m =
+      let j = m .place .0 in
+      elim (cases-bool (sameBytes (tableRow f old s) (tableRow f new s))) [
+        | inl e ↦
+            let same = sameBytes-decides (tableRow f old s) (tableRow f new s) .0 e in
+            absurd (m .place .2 (sym (row-hop f old s j (m .place .1)) ∙ ap (λ xs. getD xs j 0) same ∙ row-hop f new s j (m .place .1)))
+        | inr e ↦ not-from-false (sameBytes (tableRow f old s) (tableRow f new s)) e
+      ]
+
+  pub chosen-movers : (m : ℕ) → Chosen m (moves f old new) n → Exactly m (λ s. Mover n f old new s)
+  chosen-movers m only = record {
+    each = λ s h. mover-from-moves s (only .each s h .0) (only .each s h .1);
+    all = λ s h. only .all s (h .inside, moves-from-mover s h);
+  }

@@ -1,9 +1,0 @@
-use mathlib.Core.Path.{refl}
-use Rattle.sets.specs.Sets.{members}
-use Rattle.sheet.specs.Pieces.{sectionA, sectionB, tableSection, neededSection, pieces}
-use Rattle.sheet.specs.Tables.{movers}
-use Rattle.sheet.proofs.case.Case.smallest.Needs as need
-
-pub ghost-result : need.ghost-result
-unfolding members movers sectionA sectionB tableSection neededSection pieces
-ghost-result c = (refl, (refl, (refl, (refl, tt))))

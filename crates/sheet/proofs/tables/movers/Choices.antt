@@ -1,6 +1,0 @@
-use Rattle.sets.proofs.Laws.{Chosen}
-use Rattle.sheet.specs.Tables.{moves}
-use Rattle.sheet.proofs.tables.movers.Given as given
-
-abbrev pub Inv-loop-s : given.InvT-loop-s
-Inv-loop-s l = Chosen (l .set) (moves (l .f) (l .old) (l .new)) (l .s)
