@@ -23,43 +23,17 @@ use sheet::read_numbers;
 #[derive(Drop)]
 pub struct Case<'a> {
     sheet: &'a [u8],
-    n: u8,
-    f: u8,
-    moving: u64,
+    switches: u8,
+    flows: u8,
+    movers: u64,
     ghost lawful: { isLawful (now sheet) ≡ true },
-    ghost numbered: { n ≡ switchesOf (now sheet) },
-    ghost flowing: { f ≡ flowsOf (now sheet) },
-    ghost listed: { members moving ≡ moversOf (now sheet) },
+    ghost numbered: { switches ≡ switchesOf (now sheet) },
+    ghost flowing: { flows ≡ flowsOf (now sheet) },
+    ghost listed: { members movers ≡ moversOf (now sheet) },
 }
 
 // The smallest lawful sheet: one switch, and one flow that ends where it begins.
-const SMALLEST: [u8; 25] = [
-    1,
-    0,
-    0,
-    0,
-    0,
-    0,
-    0,
-    0,
-    0,
-    1,
-    0,
-    0,
-    1,
-    255,
-    1,
-    255,
-    1,
-    0,
-    0,
-    0,
-    0,
-    0,
-    0,
-    0,
-    0,
-];
+const SMALLEST: &[u8; 25] = b"\x01\0\0\0\0\0\0\0\0\x01\0\0\x01\xff\x01\xff\x01\0\0\0\0\0\0\0\0";
 
 impl<'a> Case<'a> {
     // The case of the smallest lawful sheet: a place to read another into.
@@ -67,10 +41,10 @@ impl<'a> Case<'a> {
         ensures { λ r. ⌜ now (r .sheet) ≡ smallestSheet ⌝ }
     {
         Case {
-            sheet: &SMALLEST,
-            n: 1,
-            f: 1,
-            moving: 0,
+            sheet: SMALLEST,
+            switches: 1,
+            flows: 1,
+            movers: 0,
         }
     }
 
@@ -79,7 +53,7 @@ impl<'a> Case<'a> {
         ensures value { λ r. ⌜ r ≡ switchesOf (now (now (self .entry) .sheet)) ⌝ }
         ensures range { λ r. ⌜ (0 < r) × (r ≤ 64) ⌝ }
     {
-        self.n
+        self.switches
     }
 
     // How many flows there are.
@@ -87,7 +61,7 @@ impl<'a> Case<'a> {
         ensures value { λ r. ⌜ r ≡ flowsOf (now (now (self .entry) .sheet)) ⌝ }
         ensures range { λ r. ⌜ (0 < r) × (r ≤ 8) ⌝ }
     {
-        self.f
+        self.flows
     }
 
     // The switch where flow j comes in, if there is such a flow.
@@ -95,7 +69,7 @@ impl<'a> Case<'a> {
         ensures value { λ r. ⌜ r ≡ ofFlow (flowsOf (now (now (self .entry) .sheet))) j (ingressOf (now (now (self .entry) .sheet)) j) ⌝ }
         ensures inside { λ r. ⌜ BySome r (Unit {0}) (λ s. s < switchesOf (now (now (self .entry) .sheet))) ⌝ }
     {
-        if j < self.f {
+        if j < self.flows {
             Some(self.sheet[self.ends_from() + 2 * j as usize])
         } else {
             None
@@ -107,7 +81,7 @@ impl<'a> Case<'a> {
         ensures value { λ r. ⌜ r ≡ ofFlow (flowsOf (now (now (self .entry) .sheet))) j (exitOf (now (now (self .entry) .sheet)) j) ⌝ }
         ensures inside { λ r. ⌜ BySome r (Unit {0}) (λ s. s < switchesOf (now (now (self .entry) .sheet))) ⌝ }
     {
-        if j < self.f {
+        if j < self.flows {
             Some(self.sheet[self.ends_from() + 2 * j as usize + 1])
         } else {
             None
@@ -119,7 +93,7 @@ impl<'a> Case<'a> {
         ensures value { λ r. ⌜ r ≡ ofFlow (flowsOf (now (now (self .entry) .sheet))) j (neededOf (now (now (self .entry) .sheet)) j) ⌝ }
         ensures inside { λ r. ⌜ BySome r (Unit {0}) (λ m. AllBelow (switchesOf (now (now (self .entry) .sheet))) m) ⌝ }
     {
-        if j < self.f {
+        if j < self.flows {
             mask_at(self.sheet, self.needed_from() + 8 * j as usize)
         } else {
             None
@@ -150,7 +124,7 @@ impl<'a> Case<'a> {
         ensures listed { λ r. ⌜ members r ≡ moversOf (now (now (self .entry) .sheet)) ⌝ }
         ensures few { λ r. ⌜ length (members r) ≤ 16 ⌝ }
     {
-        self.moving
+        self.movers
     }
 
     // The table whose rows begin at the place.
@@ -167,7 +141,7 @@ impl<'a> Case<'a> {
         ensures value { λ r. ⌜ r ≡ switchesOf (now (now (self .entry) .sheet)) * rowSize (flowsOf (now (now (self .entry) .sheet))) ⌝ }
         ensures bound { λ r. ⌜ r < 65536 ⌝ }
     {
-        self.n as usize * self.f as usize
+        usize::from(self.switches) * usize::from(self.flows)
     }
 
     // The place of the first pair of section B.
@@ -175,7 +149,7 @@ impl<'a> Case<'a> {
         ensures value { λ r. ⌜ r ≡ endsFrom (now (now (self .entry) .sheet)) 0 ⌝ }
         ensures bound { λ r. ⌜ r < 65536 ⌝ }
     {
-        1 + 8 * self.n as usize + 1
+        1 + 8 * self.switches as usize + 1
     }
 
     // The place of the first old row.
@@ -183,7 +157,7 @@ impl<'a> Case<'a> {
         ensures value { λ r. ⌜ r ≡ oldFrom (now (now (self .entry) .sheet)) + 1 ⌝ }
         ensures bound { λ r. ⌜ r < 131072 ⌝ }
     {
-        self.ends_from() + 2 * self.f as usize + 1
+        self.ends_from() + 2 * self.flows as usize + 1
     }
 
     // The place of the first new row.
@@ -211,12 +185,20 @@ pub fn read<'a>(sheet: &'a [u8], case: &mut Case<'a>) -> Result<(), Fault>
     ensures exactly { λ r. ⌜ ((e : FaultT) → FirstFails (now (sheet .entry)) e → toldBy r ≡ Some e) ⌝ }
     ensures held { λ r. ⌜ ByOk r (λ _. now (now (case .exit) .sheet) ≡ now (sheet .entry)) (λ _. now (case .exit) ≡ now (case .entry)) ⌝ }
 {
+    fill(sheet, case)
+}
+
+// The same, as the list of pieces tells it.
+fn fill<'a>(sheet: &'a [u8], case: &mut Case<'a>) -> Result<(), Fault>
+    ensures tells { λ r. ⌜ toldBy r ≡ firstFault (now (sheet .entry)) ⌝ }
+    ensures held { λ r. ⌜ ByOk r (λ _. now (now (case .exit) .sheet) ≡ now (sheet .entry)) (λ _. now (case .exit) ≡ now (case .entry)) ⌝ }
+{
     let numbers = read_numbers(sheet)?;
     *case = Case {
         sheet,
-        n: numbers.switches,
-        f: numbers.flows,
-        moving: numbers.movers,
+        switches: numbers.switches,
+        flows: numbers.flows,
+        movers: numbers.movers,
     };
     Ok(())
 }

@@ -45,6 +45,13 @@ or-members a b = record {
   all = λ t h. elim h [ inl k ↦ omega (arith, bit-or a b t, k) | inr k ↦ omega (arith, bit-or a b t, k) ];
 }
 
+-- intersection
+pub and-members : (a b : ℕ) → Exactly (bitAnd a b) (λ t. Member a t × Member b t)
+and-members a b = record {
+  each = λ t h. (omega (arith, bit-and a b t, h), omega (arith, bit-and a b t, h));
+  all = λ t h. omega (arith, bit-and a b t, h .0, h .1);
+}
+
 -- the set of one switch
 pub one-member : (s t : ℕ) → Member (2 ^ s) t → t ≡ s
 one-member s t h = elim (cases-eq s t) [ inl e ↦ sym e | inr ne ↦ absurd (no-member (2 ^ s) t (bit-other s t ne) h) ]
@@ -73,10 +80,10 @@ without-members m s = record {
 }
 
 -- part of, apart, the same, by the tests of the code
-pub part-test : (a b : ℕ) → Decides (eqb (bitOr a b) b) (PartOf a b)
+pub part-test : (a b : ℕ) → Decides (eqb (bitAnd a b) a) (PartOf a b)
 part-test a b = (
-  (λ e t h. ap (λ m. bit m t) (sym (eqb-true (bitOr a b) b e)) ∙ or-members a b .all t (inl h)),
-  (λ p. eq-eqb (bitOr a b) b (same-members (bitOr a b) b (λ t h. elim (or-members a b .each t h) [ inl k ↦ p t k | inr k ↦ k ]) (λ t h. or-members a b .all t (inr h)))),
+  (λ e t h. and-members a b .each t (ap (λ m. bit m t) (eqb-true (bitAnd a b) a e) ∙ h) .1),
+  (λ p. eq-eqb (bitAnd a b) a (same-members (bitAnd a b) a (λ t h. and-members a b .each t h .0) (λ t h. and-members a b .all t (h, p t h)))),
 )
 
 pub apart-test : (a b : ℕ) → Decides (eqb (bitAnd a b) 0) (Apart a b)

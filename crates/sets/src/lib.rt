@@ -47,7 +47,7 @@ pub fn joined(a: u64, b: u64) -> u64
 pub fn part_of(a: u64, b: u64) -> bool
     ensures { λ r. ⌜ Decides r (PartOf a b) ⌝ }
 {
-    a | b == b
+    a & b == a
 }
 
 // Whether a and b have no switch in common.

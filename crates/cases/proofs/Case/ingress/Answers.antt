@@ -17,6 +17,6 @@ returns-then-j-self c =
     let at : c .ends-from .result + 2 * c .args .j ≡ endsFrom (v .sheet .now) (c .args .j) = omega (arith, c .ends-from .ensures .value) in
     let e : getD (v .sheet .now) (c .ends-from .result + 2 * c .args .j) 0 ≡ ingressOf (v .sheet .now) (c .args .j) = ap (λ p. getD (v .sheet .now) p 0) at in
     record {
-      value = of-flow (v .f) (flows (v .sheet .now)) (c .args .j) _ (ingressOf (v .sheet .now) (c .args .j)) (v .flowing) (omega arith) e;
+      value = of-flow (v .flows) (flows (v .sheet .now)) (c .args .j) _ (ingressOf (v .sheet .now) (c .args .j)) (v .flowing) (omega arith) e;
       inside = omega (arith, e, lawful-of (v .sheet .now) (v .lawful) .ends (c .args .j) (omega (arith, v .flowing)) .0);
     }

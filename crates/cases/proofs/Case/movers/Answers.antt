@@ -8,7 +8,7 @@ pub returns : need.returns
 returns c =
     let v = c .args .self .now in
     record {
-      exact = exact-movers (v .sheet .now) (v .lawful) (v .moving) (omega arith) (v .listed);
+      exact = exact-movers (v .sheet .now) (v .lawful) (v .movers) (omega arith) (v .listed);
       listed = v .listed;
       few = omega (arith, ap length (v .listed), lawful-of (v .sheet .now) (v .lawful) .few-movers);
     }

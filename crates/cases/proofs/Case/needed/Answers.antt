@@ -23,6 +23,6 @@ returns-then-j-self c =
     let e : c .mask-at .result ≡ Some (neededOf bs (c .args .j)) =
     c .mask-at .ensures ∙ ap (λ b. cond b (Some (maskAt bs place)) None) (le-leb (place + 8) (length bs) (omega (arith, at, inside))) ∙ ap (λ p. Some (maskAt bs p)) at in
     record {
-      value = e ∙ of-flow (v .f) (flows bs) (c .args .j) (neededOf bs (c .args .j)) (neededOf bs (c .args .j)) (v .flowing) (omega arith) refl;
+      value = e ∙ of-flow (v .flows) (flows bs) (c .args .j) (neededOf bs (c .args .j)) (neededOf bs (c .args .j)) (v .flowing) (omega arith) refl;
       inside = subst (λ o. Cases o (Unit {0}) (AllBelow (switches bs))) (sym e) (λ t h. lawful-of bs (v .lawful) .needs (c .args .j) t (omega (arith, v .flowing)) h);
     }
