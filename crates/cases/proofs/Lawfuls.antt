@@ -34,7 +34,7 @@ use Rattle.records.proofs.Rows.{row-inside}
 -- ---- pieces
 
 -- a piece of one test is right
-one-right : (n : ℕ) (c : Section) (p k : ℕ) (kind : FaultKind) (b : Bool) → wrong n (piece c p k kind b) ≡ None → (p + k ≤ n) × (b ≡ true)
+pub one-right : (n : ℕ) (c : Section) (p k : ℕ) (kind : FaultKind) (b : Bool) → wrong n (piece c p k kind b) ≡ None → (p + k ≤ n) × (b ≡ true)
 one-right n c p k kind b h = by-cases (leb (p + k) n) b refl h
   where
     by-cases : (x y : Bool) → leb (p + k) n ≡ x → cond x (cond y None (Some (faultOf kind c p))) (Some (faultOf EndsTooSoon c n)) ≡ None → (p + k ≤ n) × (y ≡ true)
@@ -61,11 +61,11 @@ items-clear n item zero a all = refl
 items-clear n item (suc m) a all =
     ap (λ o. orElse o (firstWrong n (map item (counting (a + 1) m)))) (all a (omega arith) (omega arith)) ∙ items-clear n item m (a + 1) (λ i low high. all i (omega arith) (omega arith))
 
-record Right (n : ℕ) (head : Piece) (item : ℕ → Piece) (m : ℕ) : Type 0 where
-  first : wrong n head ≡ None
-  each : (i : ℕ) → i < m → wrong n (item i) ≡ None
+pub record Right (n : ℕ) (head : Piece) (item : ℕ → Piece) (m : ℕ) : Type 0 where
+  pub first : wrong n head ≡ None
+  pub each : (i : ℕ) → i < m → wrong n (item i) ≡ None
 
-section-right : (n : ℕ) (head : Piece) (item : ℕ → Piece) (m : ℕ) → firstWrong n (counted head item m) ≡ None → Right n head item m
+pub section-right : (n : ℕ) (head : Piece) (item : ℕ → Piece) (m : ℕ) → firstWrong n (counted head item m) ≡ None → Right n head item m
 section-right n head item m h =
     let b = orElse-none (wrong n head) (firstWrong n (map item (counting 0 m))) h in
     record { first = b .0; each = λ i less. item-right n item m 0 i i (b .1) less (omega arith) }
@@ -76,7 +76,7 @@ section-clear n head item m r =
 
 -- ---- tests
 
-within-right : (most k : ℕ) → within most k ≡ true → (0 < k) × (k ≤ most)
+pub within-right : (most k : ℕ) → within most k ≡ true → (0 < k) × (k ≤ most)
 within-right most k h = let p = and-parts (ltb 0 k) (leb k most) h in (ltb-true 0 k (p .0), leb-true k most (p .1))
 
 within-passes : (most k : ℕ) → 0 < k → k ≤ most → within most k ≡ true

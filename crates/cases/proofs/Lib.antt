@@ -1,3 +1,4 @@
 pub mod Lawfuls
 pub mod Relations
 pub mod Laws
+pub mod Starts

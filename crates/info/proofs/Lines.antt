@@ -2,22 +2,29 @@
 use mathlib.Core.Path.{_≡_, refl, sym, ap, _∙_}
 use mathlib.Core.Bool.{Bool, true, false, cond}
 use mathlib.Core.List.{List, [], _∷_, _++_}
-use Prim.Native.Nat.{ℕ, _+_}
+use mathlib.Core.Logic.{_⊎_, inl, inr}
+use Prim.Native.Nat.{ℕ, _+_, _≤_, _<_}
+use native.Mathlib.Omega.{arith}
 use lib.Chars.{codes}
 use lib.Dec.{eqb}
+use lib.ListN.{length, take}
 use lib.Utf8.{encode}
 use Rattle.std.specs.Iters.{counting}
 use Rattle.std.specs.Written.{decimal}
 use Rattle.std.specs.shelf.Lists.{kept-by}
-use Rattle.std.proofs.shelf.Lists.{append-nil, append-assoc}
-use Rattle.std.proofs.shelf.Tests.{eq-eqb, ne-eqb}
+use Rattle.std.proofs.shelf.Lists.{append-nil, append-assoc, take-all}
+use Rattle.std.proofs.shelf.Tests.{eq-eqb, ne-eqb, cases-lt}
 use Rattle.sets.specs.Sets.{bit, Member, members}
 use Rattle.sets.proofs.Laws.{kept-more}
 use Rattle.sheet.specs.declared.fault.Fault.{Fault}
 use Rattle.sheet.specs.declared.fault.Section.{Section}
 use Rattle.sheet.specs.declared.fault.Section.the-variants.{A, B, C, D, E}
 use Rattle.sheet.specs.Faults.{numberOf, letterOf}
-use Rattle.info.specs.Texts.{refusedText, moversText}
+use Rattle.sheet.specs.Pieces.{firstFault}
+use Rattle.cases.proofs.Starts.{first-bytes, lawful-short}
+use Rattle.std.specs.declared.option.Option.{Option}
+use Rattle.std.specs.declared.option.Option.the-variants.{Some, None}
+use Rattle.info.specs.Texts.{refusedText, moversText, toldText, infoText}
 
 letter-text : (s : Section) → encode (letterOf s) ≡ letterOf s ∷ []
 unfolding encode
@@ -58,3 +65,12 @@ spelt-skip set s text before out =
 pub spelt-all : (set : ℕ) (text : List ℕ) → Spelt set 64 text → text ≡ moversText (members set)
 unfolding members
 spelt-all set text h = h
+
+-- a longer input is told as its start is
+pub start-text : (bs : List ℕ) → infoText (take 1622 bs) ≡ infoText bs
+start-text bs = by (firstFault bs) refl (cases-lt 1622 (length bs))
+  where
+    by : (o : Option Fault) → firstFault bs ≡ o → (1622 < length bs) ⊎ (length bs ≤ 1622) → infoText (take 1622 bs) ≡ infoText bs
+    by o e (inr short) = ap infoText (take-all 1622 bs short)
+    by None e (inl long) = absurd (omega (arith, lawful-short bs e, long))
+    by (Some x) e (inl long) = ap (toldText (take 1622 bs)) (first-bytes bs ∙ e) ∙ sym (ap (toldText bs) e)

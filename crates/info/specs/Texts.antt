@@ -31,3 +31,7 @@ toldText bs (Some e) = refusedText e
 -- what is told of a sheet
 abbrev pub infoText : List ℕ → List ℕ
 infoText bs = toldText bs (firstFault bs)
+
+-- how many bytes at the start of an input are enough to judge it: one more than the longest lawful sheet has
+abbrev pub enoughBytes : ℕ
+enoughBytes = 1622

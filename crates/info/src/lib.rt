@@ -1,12 +1,14 @@
 // What there is to tell of a sheet, as text.
 ghost use mathlib.Core.Path.{_≡_};
-ghost use mathlib.Core.List.{_++_};
+ghost use mathlib.Core.List.{List, _++_};
+ghost use Prim.Native.Nat.{ℕ};
 ghost use lib.Chars.{codes};
+ghost use lib.ListN.{take};
 ghost use Rattle.std.specs.Written.{decimal};
 ghost use Rattle.std.specs.Of.String.{string-bytes};
 ghost use Rattle.std.specs.Vec.{made};
 ghost use Rattle.sets.specs.Sets.{members};
-ghost use Rattle.info.specs.Texts.{refusedText, moversText, summaryText, infoText};
+ghost use Rattle.info.specs.Texts.{refusedText, moversText, summaryText, infoText, enoughBytes};
 use cases::Case;
 use cases::read;
 use sheet::fault::Fault;
@@ -63,4 +65,18 @@ pub fn describe(heap: Global, sheet: &[u8]) -> Result<String, AllocError>
         Ok(()) => summary(heap, &case),
         Err(fault) => refused(heap, &fault),
     }
+}
+
+// How many bytes at the start of an input are enough to judge it.
+pub fn enough() -> u64
+    ensures { λ r. ⌜ r ≡ enoughBytes ⌝ }
+{
+    1622
+}
+
+// What is told of an input, by its start: as many bytes as are enough, or all of it where it has fewer.
+pub fn describe_start(heap: Global, start: &[u8]) -> Result<String, AllocError>
+    ensures { λ r. ⌜ made r (λ t. (whole : List ℕ) → now (start .entry) ≡ take enoughBytes whole → string-bytes t ≡ infoText whole) ⌝ }
+{
+    describe(heap, start)
 }

@@ -14,7 +14,12 @@ use crate::fault::Section;
 use records::movers;
 
 // The fault of a test that did not pass, in a record at the place.
-pub fn tested(passes: bool, kind: FaultKind, section: Section, place: usize) -> Result<(), Fault>
+pub(crate) fn tested(
+    passes: bool,
+    kind: FaultKind,
+    section: Section,
+    place: usize,
+) -> Result<(), Fault>
     ensures { λ r. ⌜ toldBy r ≡ failing section place (testOf kind passes) ⌝ }
 {
     if passes {
@@ -29,7 +34,7 @@ pub fn tested(passes: bool, kind: FaultKind, section: Section, place: usize) -> 
 }
 
 // The set of the movers, where there are at most 16; else the fault of the section that begins at the place.
-pub fn few_movers(
+pub(crate) fn few_movers(
     old: &[u8],
     new: &[u8],
     n: u8,

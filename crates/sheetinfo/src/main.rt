@@ -1,11 +1,12 @@
 // Reads a sheet from standard input, and prints what it holds, or which fault it has and where.
-use info::describe;
+use info::describe_start;
+use info::enough;
 use std::io;
 use std::io::Read;
 
 fn main(rt: LibcRuntime) -> io::Result<()> {
-    let mut sheet = Vec::new(rt.alloc());
-    rt.stdin().read_to_end(&mut sheet)?;
-    let text = describe(rt.alloc(), sheet.as_slice())?;
+    let mut start = Vec::new(rt.alloc());
+    rt.stdin().take(enough()).read_to_end(&mut start)?;
+    let text = describe_start(rt.alloc(), start.as_slice())?;
     print!(rt, "{text}")
 }

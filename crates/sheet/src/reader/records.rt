@@ -60,7 +60,7 @@ impl<'a> Reader<'a> {
     }
 
     // The number of switches.
-    pub fn switch_count(&mut self) -> Result<u8, Fault>
+    pub(super) fn switch_count(&mut self) -> Result<u8, Fault>
         requires { ⌜ now self .at ≡ 0 ⌝ }
         ensures kept { λ _. ⌜ bytes (now (self .exit)) ≡ bytes (now (self .entry)) ⌝ }
         ensures tells { λ r. ⌜ Tells (bytes (now (self .entry))) (switchCount (bytes (now (self .entry)))) r ⌝ }
@@ -73,7 +73,7 @@ impl<'a> Reader<'a> {
     }
 
     // The links of switch s of n.
-    pub fn link_mask(&mut self, n: u8, s: u8) -> Result<(), Fault>
+    pub(super) fn link_mask(&mut self, n: u8, s: u8) -> Result<(), Fault>
         requires { ⌜ now self .at ≡ linksFrom s ⌝ ∗ ⌜ n ≡ switches (bytes (now self)) ⌝ }
         ensures kept { λ _. ⌜ bytes (now (self .exit)) ≡ bytes (now (self .entry)) ⌝ }
         ensures tells { λ r. ⌜ Tells (bytes (now (self .entry))) (linkMask (bytes (now (self .entry))) s) r ⌝ }
@@ -90,7 +90,7 @@ impl<'a> Reader<'a> {
     }
 
     // The number of flows.
-    pub fn flow_count(&mut self) -> Result<u8, Fault>
+    pub(super) fn flow_count(&mut self) -> Result<u8, Fault>
         requires { ⌜ now self .at ≡ flowsFrom (bytes (now self)) ⌝ }
         ensures kept { λ _. ⌜ bytes (now (self .exit)) ≡ bytes (now (self .entry)) ⌝ }
         ensures tells { λ r. ⌜ Tells (bytes (now (self .entry))) (flowCount (bytes (now (self .entry)))) r ⌝ }
@@ -103,7 +103,7 @@ impl<'a> Reader<'a> {
     }
 
     // The ingress and the exit of a flow, among n switches.
-    pub fn flow_ends(&mut self, n: u8) -> Result<(), Fault>
+    pub(super) fn flow_ends(&mut self, n: u8) -> Result<(), Fault>
         requires { ⌜ n ≡ switches (bytes (now self)) ⌝ }
         ensures kept { λ _. ⌜ bytes (now (self .exit)) ≡ bytes (now (self .entry)) ⌝ }
         ensures tells { λ r. ⌜ Tells (bytes (now (self .entry))) (flowEnds (bytes (now (self .entry))) (now (self .entry) .at)) r ⌝ }
@@ -121,7 +121,7 @@ impl<'a> Reader<'a> {
     }
 
     // The count of a section that is to have so many records.
-    pub fn same_count(&mut self, section: Section, expected: u8) -> Result<(), Fault>
+    pub(super) fn same_count(&mut self, section: Section, expected: u8) -> Result<(), Fault>
         ensures kept { λ _. ⌜ bytes (now (self .exit)) ≡ bytes (now (self .entry)) ⌝ }
         ensures tells { λ r. ⌜ Tells (bytes (now (self .entry))) (sameCount (bytes (now (self .entry))) section (now (self .entry) .at) expected) r ⌝ }
         ensures goes { λ r. ⌜ Going (now (self .exit)) (now (self .entry) .at + 1) r ⌝ }
@@ -140,7 +140,7 @@ impl<'a> Reader<'a> {
     }
 
     // The row of switch s, a hop for each of f flows.
-    pub fn switch_row(&mut self, section: Section, f: u8, s: u8) -> Result<(), Fault>
+    pub(super) fn switch_row(&mut self, section: Section, f: u8, s: u8) -> Result<(), Fault>
         requires { ⌜ f ≡ flows (bytes (now self)) ⌝ ∗ ⌜ linksFrom s + 8 ≤ length (bytes (now self)) ⌝ }
         ensures kept { λ _. ⌜ bytes (now (self .exit)) ≡ bytes (now (self .entry)) ⌝ }
         ensures tells { λ r. ⌜ Tells (bytes (now (self .entry))) (switchRow (bytes (now (self .entry))) section (now (self .entry) .at) s) r ⌝ }
@@ -153,7 +153,7 @@ impl<'a> Reader<'a> {
     }
 
     // The needed switches of a flow, among n switches.
-    pub fn needed_mask(&mut self, n: u8) -> Result<(), Fault>
+    pub(super) fn needed_mask(&mut self, n: u8) -> Result<(), Fault>
         requires { ⌜ n ≡ switches (bytes (now self)) ⌝ }
         ensures kept { λ _. ⌜ bytes (now (self .exit)) ≡ bytes (now (self .entry)) ⌝ }
         ensures tells { λ r. ⌜ Tells (bytes (now (self .entry))) (neededMask (bytes (now (self .entry))) (now (self .entry) .at)) r ⌝ }

@@ -14,7 +14,7 @@ use crate::tested::tested;
 
 impl<'a> Reader<'a> {
     // Section A: the number of switches, and the links of each.
-    pub fn section_a(&mut self) -> Result<u8, Fault>
+    pub(super) fn section_a(&mut self) -> Result<u8, Fault>
         requires { ⌜ now self .at ≡ 0 ⌝ }
         ensures kept { λ _. ⌜ bytes (now (self .exit)) ≡ bytes (now (self .entry)) ⌝ }
         ensures tells { λ r. ⌜ TellsFirst (bytes (now (self .entry))) (sectionA (bytes (now (self .entry)))) r ⌝ }
@@ -29,7 +29,7 @@ impl<'a> Reader<'a> {
     }
 
     // Section B: the number of flows, and the ends of each.
-    pub fn section_b(&mut self, n: u8) -> Result<u8, Fault>
+    pub(super) fn section_b(&mut self, n: u8) -> Result<u8, Fault>
         requires { ⌜ now self .at ≡ flowsFrom (bytes (now self)) ⌝ ∗ ⌜ n ≡ switches (bytes (now self)) ⌝ }
         ensures kept { λ _. ⌜ bytes (now (self .exit)) ≡ bytes (now (self .entry)) ⌝ }
         ensures tells { λ r. ⌜ TellsFirst (bytes (now (self .entry))) (sectionB (bytes (now (self .entry)))) r ⌝ }
@@ -43,7 +43,7 @@ impl<'a> Reader<'a> {
     }
 
     // Section C or D: the row of each switch. Gives the rows.
-    pub fn table(&mut self, section: Section, n: u8, f: u8) -> Result<&'a [u8], Fault>
+    pub(super) fn table(&mut self, section: Section, n: u8, f: u8) -> Result<&'a [u8], Fault>
         requires counts { ⌜ n ≡ switches (bytes (now self)) ⌝ ∗ ⌜ f ≡ flows (bytes (now self)) ⌝ }
         requires behind { ⌜ flowsFrom (bytes (now self)) ≤ now self .at ⌝ }
         ensures kept { λ _. ⌜ bytes (now (self .exit)) ≡ bytes (now (self .entry)) ⌝ }
@@ -60,7 +60,7 @@ impl<'a> Reader<'a> {
     }
 
     // Section E: the needed switches of each flow.
-    pub fn needed(&mut self, n: u8, f: u8) -> Result<(), Fault>
+    pub(super) fn needed(&mut self, n: u8, f: u8) -> Result<(), Fault>
         requires counts { ⌜ n ≡ switches (bytes (now self)) ⌝ ∗ ⌜ f ≡ flows (bytes (now self)) ⌝ }
         ensures kept { λ _. ⌜ bytes (now (self .exit)) ≡ bytes (now (self .entry)) ⌝ }
         ensures tells { λ r. ⌜ TellsFirst (bytes (now (self .entry))) (neededSection (bytes (now (self .entry))) (now (self .entry) .at)) r ⌝ }
@@ -74,7 +74,7 @@ impl<'a> Reader<'a> {
     }
 
     // No byte follows section E.
-    pub fn no_more(&self) -> Result<(), Fault>
+    pub(super) fn no_more(&self) -> Result<(), Fault>
         requires { ⌜ now self .at ≡ sheetEnd (bytes (now self)) ⌝ }
         ensures { λ r. ⌜ Tells (bytes (now (self .entry))) (noMore (bytes (now (self .entry)))) r ⌝ }
     {
