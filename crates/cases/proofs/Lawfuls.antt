@@ -15,20 +15,20 @@ use Rattle.std.specs.declared.option.Option.{Option}
 use Rattle.std.specs.declared.option.Option.the-variants.{Some, None}
 use Rattle.std.proofs.shelf.Lists.{getD-take, getD-drop, length-take, length-drop}
 use Rattle.std.proofs.shelf.Tests.{leb-true, leb-false, ltb-true, eqb-true, le-leb, lt-leb, lt-ltb, eq-eqb, ne-eqb, and-parts, and-from, or-cases, or-left, or-right, not-true, not-from-false, cases-bool, cases-lt, both-ways}
-use Rattle.sets.specs.Sets.{bit, Member, AllBelow}
+use Rattle.sets.specs.Sets.{bit, InSet, MembersBelow}
 use Rattle.sets.proofs.Laws.{below-ltb, member-eqb}
 use Rattle.sheet.specs.declared.fault.FaultKind.{FaultKind}
 use Rattle.sheet.specs.declared.fault.FaultKind.the-variants.{EndsTooSoon}
 use Rattle.sheet.specs.declared.fault.Fault.{Fault}
 use Rattle.sheet.specs.declared.fault.Section.{Section}
 use Rattle.sheet.specs.declared.fault.Section.the-variants.{C, D, E}
-use Rattle.records.specs.Masks.{bytesAt, maskAt, within, maskFits, linksFit}
+use Rattle.records.specs.Masks.{bytesAt, maskAt, inRange, maskFits, linksFit}
 use Rattle.sheet.specs.Faults.{faultOf}
 use Rattle.sheet.specs.Layout.{byteAt, switches, linksFrom, links, flows, flowsFrom, endsFrom, ingressOf, exitOf, rowFrom, tableAt, oldFrom, newFrom, oldTable, newTable, maskFrom, neededFrom, neededOf, sheetEnd, moversOf}
-use Rattle.cases.specs.Lawful.{HopsFit, Lawful, Passes, CutShort, TestFails, FirstFails, none-told, isLawful}
-use Rattle.sheet.specs.Pieces.{Test, Piece, orElse, failing, wrong, firstWrong, piece, switchCount, linkMask, flowCount, flowEnds, sameCount, switchRow, neededMask, noMore, fewMovers, counted, sectionA, sectionB, tableSection, neededSection, pieces, firstFault}
+use Rattle.cases.specs.Lawful.{HopsFit, LawfulSheet, Passes, CutShort, TestFails, FirstFails, none-told, isLawful}
+use Rattle.sheet.specs.Pieces.{Test, Piece, orLater, failing, wrong, firstWrong, piece, switchCount, linkMask, flowCount, flowEnds, sameCount, switchRow, neededMask, noMore, fewMovers, counted, sectionA, sectionB, tableSection, neededSection, sheetPieces, firstFault}
 use Rattle.records.specs.Tables.{rowSize, hopAt, HopFits, hopFits, rowFits}
-use Rattle.sheet.proofs.Firsts.{orElse-none, first-append}
+use Rattle.sheet.proofs.Firsts.{orLater-none, first-append}
 use Rattle.records.proofs.Rows.{row-inside}
 
 -- ---- pieces
@@ -52,14 +52,14 @@ item-right : (n : ℕ) (item : ℕ → Piece) (m a j k : ℕ) → firstWrong n (
 item-right n item zero a j k e h s = absurd (omega arith)
 item-right n item (suc m) a zero k e h s =
     let t : a ≡ k = omega arith in
-    subst (λ i. wrong n (item i) ≡ None) t (orElse-none (wrong n (item a)) (firstWrong n (map item (counting (a + 1) m))) e .0)
+    subst (λ i. wrong n (item i) ≡ None) t (orLater-none (wrong n (item a)) (firstWrong n (map item (counting (a + 1) m))) e .0)
 item-right n item (suc m) a (suc j) k e h s =
-    item-right n item m (a + 1) j k (orElse-none (wrong n (item a)) (firstWrong n (map item (counting (a + 1) m))) e .1) (omega arith) (omega arith)
+    item-right n item m (a + 1) j k (orLater-none (wrong n (item a)) (firstWrong n (map item (counting (a + 1) m))) e .1) (omega arith) (omega arith)
 
 items-clear : (n : ℕ) (item : ℕ → Piece) (m a : ℕ) → ((i : ℕ) → a ≤ i → i < a + m → wrong n (item i) ≡ None) → firstWrong n (map item (counting a m)) ≡ None
 items-clear n item zero a all = refl
 items-clear n item (suc m) a all =
-    ap (λ o. orElse o (firstWrong n (map item (counting (a + 1) m)))) (all a (omega arith) (omega arith)) ∙ items-clear n item m (a + 1) (λ i low high. all i (omega arith) (omega arith))
+    ap (λ o. orLater o (firstWrong n (map item (counting (a + 1) m)))) (all a (omega arith) (omega arith)) ∙ items-clear n item m (a + 1) (λ i low high. all i (omega arith) (omega arith))
 
 pub record Right (n : ℕ) (head : Piece) (item : ℕ → Piece) (m : ℕ) : Type 0 where
   pub first : wrong n head ≡ None
@@ -67,27 +67,27 @@ pub record Right (n : ℕ) (head : Piece) (item : ℕ → Piece) (m : ℕ) : Typ
 
 pub section-right : (n : ℕ) (head : Piece) (item : ℕ → Piece) (m : ℕ) → firstWrong n (counted head item m) ≡ None → Right n head item m
 section-right n head item m h =
-    let b = orElse-none (wrong n head) (firstWrong n (map item (counting 0 m))) h in
+    let b = orLater-none (wrong n head) (firstWrong n (map item (counting 0 m))) h in
     record { first = b .0; each = λ i less. item-right n item m 0 i i (b .1) less (omega arith) }
 
 section-clear : (n : ℕ) (head : Piece) (item : ℕ → Piece) (m : ℕ) → Right n head item m → firstWrong n (counted head item m) ≡ None
 section-clear n head item m r =
-    ap (λ o. orElse o (firstWrong n (map item (counting 0 m)))) (r .first) ∙ items-clear n item m 0 (λ i low high. r .each i (omega arith))
+    ap (λ o. orLater o (firstWrong n (map item (counting 0 m)))) (r .first) ∙ items-clear n item m 0 (λ i low high. r .each i (omega arith))
 
 -- ---- tests
 
-pub within-right : (most k : ℕ) → within most k ≡ true → (0 < k) × (k ≤ most)
+pub within-right : (most k : ℕ) → inRange most k ≡ true → (0 < k) × (k ≤ most)
 within-right most k h = let p = and-parts (ltb 0 k) (leb k most) h in (ltb-true 0 k (p .0), leb-true k most (p .1))
 
-within-passes : (most k : ℕ) → 0 < k → k ≤ most → within most k ≡ true
+within-passes : (most k : ℕ) → 0 < k → k ≤ most → inRange most k ≡ true
 within-passes most k low high = and-from (ltb 0 k) (leb k most) (lt-ltb 0 k low) (le-leb k most high)
 
-links-right : (n s m : ℕ) → linksFit n s m ≡ true → (t : ℕ) → Member m t → (t < n) × (t ≡ s → ⊥)
+links-right : (n s m : ℕ) → linksFit n s m ≡ true → (t : ℕ) → InSet m t → (t < n) × (t ≡ s → ⊥)
 links-right n s m h t in′ =
     let p = and-parts (not (eqb (bit m s) 1)) (maskFits n m) h in
     (below-ltb n m .0 (p .1) t in′, (λ e. both-ways (eqb (bit m s) 1) (not-true (eqb (bit m s) 1) (p .0)) (eq-eqb (bit m s) 1 (ap (bit m) (sym e) ∙ in′))))
 
-links-passes : (n s m : ℕ) → ((t : ℕ) → Member m t → (t < n) × (t ≡ s → ⊥)) → linksFit n s m ≡ true
+links-passes : (n s m : ℕ) → ((t : ℕ) → InSet m t → (t < n) × (t ≡ s → ⊥)) → linksFit n s m ≡ true
 links-passes n s m all =
     and-from (not (eqb (bit m s) 1)) (maskFits n m) (not-from-false (eqb (bit m s) 1) (ne-eqb (bit m s) 1 (λ e. all s e .1 refl))) (below-ltb n m .1 (λ t h. all t h .0))
 
@@ -156,17 +156,17 @@ record Sections (bs : List ℕ) : Type 0 where
   few : wrong (length bs) (fewMovers bs) ≡ None
 
 split-none : (n : ℕ) (ps qs : List Piece) → firstWrong n (ps ++ qs) ≡ None → (firstWrong n ps ≡ None) × (firstWrong n qs ≡ None)
-split-none n ps qs h = orElse-none (firstWrong n ps) (firstWrong n qs) (sym (first-append n ps qs) ∙ h)
+split-none n ps qs h = orLater-none (firstWrong n ps) (firstWrong n qs) (sym (first-append n ps qs) ∙ h)
 
 join-none : (n : ℕ) (ps qs : List Piece) → firstWrong n ps ≡ None → firstWrong n qs ≡ None → firstWrong n (ps ++ qs) ≡ None
-join-none n ps qs a b = first-append n ps qs ∙ ap (λ o. orElse o (firstWrong n qs)) a ∙ b
+join-none n ps qs a b = first-append n ps qs ∙ ap (λ o. orLater o (firstWrong n qs)) a ∙ b
 
 module _ (bs : List ℕ) where
   abbrev closing : List Piece
   closing = noMore bs ∷ (fewMovers bs ∷ [])
 
   sections-right : firstFault bs ≡ None → Sections bs
-  unfolding pieces sectionA sectionB tableSection neededSection
+  unfolding sheetPieces sectionA sectionB tableSection neededSection
   sections-right h =
       let n = length bs in
       let a = split-none n (sectionA bs) (sectionB bs ++ (tableSection bs C (oldFrom bs) ++ (tableSection bs D (newFrom bs) ++ (neededSection bs (neededFrom bs) ++ closing)))) h in
@@ -174,7 +174,7 @@ module _ (bs : List ℕ) where
       let c = split-none n (tableSection bs C (oldFrom bs)) (tableSection bs D (newFrom bs) ++ (neededSection bs (neededFrom bs) ++ closing)) (b .1) in
       let d = split-none n (tableSection bs D (newFrom bs)) (neededSection bs (neededFrom bs) ++ closing) (c .1) in
       let e = split-none n (neededSection bs (neededFrom bs)) closing (d .1) in
-      let f = orElse-none (wrong n (noMore bs)) (firstWrong n (fewMovers bs ∷ [])) (e .1) in
+      let f = orLater-none (wrong n (noMore bs)) (firstWrong n (fewMovers bs ∷ [])) (e .1) in
       record {
         in-a = section-right n (switchCount bs) (linkMask bs) (switches bs) (a .0);
         in-b = section-right n (flowCount bs) (λ j. flowEnds bs (endsFrom bs j)) (flows bs) (b .0);
@@ -182,30 +182,30 @@ module _ (bs : List ℕ) where
         in-d = section-right n (sameCount bs D (newFrom bs) (switches bs)) (λ s. switchRow bs D (rowFrom bs (newFrom bs) s) s) (switches bs) (d .0);
         in-e = section-right n (sameCount bs E (neededFrom bs) (flows bs)) (λ j. neededMask bs (maskFrom (neededFrom bs) j)) (flows bs) (e .0);
         more = f .0;
-        few = orElse-none (wrong n (fewMovers bs)) None (f .1) .0;
+        few = orLater-none (wrong n (fewMovers bs)) None (f .1) .0;
       }
 
   sections-clear : Sections bs → firstFault bs ≡ None
-  unfolding pieces sectionA sectionB tableSection neededSection
+  unfolding sheetPieces sectionA sectionB tableSection neededSection
   sections-clear r =
       let n = length bs in
-      let last : firstWrong n closing ≡ None = ap (λ o. orElse o (orElse (wrong n (fewMovers bs)) None)) (r .more) ∙ ap (λ o. orElse o None) (r .few) in
+      let last : firstWrong n closing ≡ None = ap (λ o. orLater o (orLater (wrong n (fewMovers bs)) None)) (r .more) ∙ ap (λ o. orLater o None) (r .few) in
       join-none n (sectionA bs) (sectionB bs ++ (tableSection bs C (oldFrom bs) ++ (tableSection bs D (newFrom bs) ++ (neededSection bs (neededFrom bs) ++ closing)))) (section-clear n (switchCount bs) (linkMask bs) (switches bs) (r .in-a))
       (join-none n (sectionB bs) (tableSection bs C (oldFrom bs) ++ (tableSection bs D (newFrom bs) ++ (neededSection bs (neededFrom bs) ++ closing))) (section-clear n (flowCount bs) (λ j. flowEnds bs (endsFrom bs j)) (flows bs) (r .in-b))
       (join-none n (tableSection bs C (oldFrom bs)) (tableSection bs D (newFrom bs) ++ (neededSection bs (neededFrom bs) ++ closing)) (section-clear n (sameCount bs C (oldFrom bs) (switches bs)) (λ s. switchRow bs C (rowFrom bs (oldFrom bs) s) s) (switches bs) (r .in-c))
       (join-none n (tableSection bs D (newFrom bs)) (neededSection bs (neededFrom bs) ++ closing) (section-clear n (sameCount bs D (newFrom bs) (switches bs)) (λ s. switchRow bs D (rowFrom bs (newFrom bs) s) s) (switches bs) (r .in-d))
       (join-none n (neededSection bs (neededFrom bs)) closing (section-clear n (sameCount bs E (neededFrom bs) (flows bs)) (λ j. neededMask bs (maskFrom (neededFrom bs) j)) (flows bs) (r .in-e)) last))))
 
-  lawful-from-sections : Sections bs → Lawful bs
+  lawful-from-sections : Sections bs → LawfulSheet bs
   lawful-from-sections r =
       let n = length bs in
       let c = table-right bs C (oldFrom bs) (r .in-c) in
       let d = table-right bs D (newFrom bs) (r .in-d) in
       let more = one-right n E (sheetEnd bs) 0 _ (leb n (sheetEnd bs)) (r .more) in
       record {
-        some-switches = within-right 64 (switches bs) (one-right n _ 0 1 _ (within 64 (switches bs)) (r .in-a .first) .1);
+        some-switches = within-right 64 (switches bs) (one-right n _ 0 1 _ (inRange 64 (switches bs)) (r .in-a .first) .1);
         linked = λ s t hs h. links-right (switches bs) s (links bs s) (one-right n _ (linksFrom s) 8 _ (linksFit (switches bs) s (links bs s)) (r .in-a .each s hs) .1) t h;
-        some-flows = within-right 8 (flows bs) (one-right n _ (flowsFrom bs) 1 _ (within 8 (flows bs)) (r .in-b .first) .1);
+        some-flows = within-right 8 (flows bs) (one-right n _ (flowsFrom bs) 1 _ (inRange 8 (flows bs)) (r .in-b .first) .1);
         ends = λ j hj.
             let p = and-parts (ltb (ingressOf bs j) (switches bs)) (ltb (exitOf bs j) (switches bs)) (one-right n _ (endsFrom bs j) 2 _ _ (r .in-b .each j hj) .1) in
             (ltb-true (ingressOf bs j) (switches bs) (p .0), ltb-true (exitOf bs j) (switches bs) (p .1));
@@ -217,19 +217,19 @@ module _ (bs : List ℕ) where
         few-movers = leb-true (length (moversOf bs)) 16 (one-right n D (newFrom bs) 0 _ (leb (length (moversOf bs)) 16) (r .few) .1);
       }
 
-  pub lawful-from-none : firstFault bs ≡ None → Lawful bs
+  pub lawful-from-none : firstFault bs ≡ None → LawfulSheet bs
   lawful-from-none h = lawful-from-sections (sections-right h)
 
-  sections-from-lawful : Lawful bs → Sections bs
+  sections-from-lawful : LawfulSheet bs → Sections bs
   sections-from-lawful l =
       let n = length bs in
       record {
         in-a = record {
-          first = one-passes n _ 0 1 _ (within 64 (switches bs)) (omega (arith, l .ends-there)) (within-passes 64 (switches bs) (l .some-switches .0) (l .some-switches .1));
+          first = one-passes n _ 0 1 _ (inRange 64 (switches bs)) (omega (arith, l .ends-there)) (within-passes 64 (switches bs) (l .some-switches .0) (l .some-switches .1));
           each = λ s hs. one-passes n _ (linksFrom s) 8 _ (linksFit (switches bs) s (links bs s)) (omega (arith, l .ends-there, hs)) (links-passes (switches bs) s (links bs s) (λ t h. l .linked s t hs h));
         };
         in-b = record {
-          first = one-passes n _ (flowsFrom bs) 1 _ (within 8 (flows bs)) (omega (arith, l .ends-there)) (within-passes 8 (flows bs) (l .some-flows .0) (l .some-flows .1));
+          first = one-passes n _ (flowsFrom bs) 1 _ (inRange 8 (flows bs)) (omega (arith, l .ends-there)) (within-passes 8 (flows bs) (l .some-flows .0) (l .some-flows .1));
           each = λ j hj.
               let e = l .ends j hj in
               one-passes n _ (endsFrom bs j) 2 _ (ltb (ingressOf bs j) (switches bs) && ltb (exitOf bs j) (switches bs)) (omega (arith, l .ends-there, hj)) (and-from (ltb (ingressOf bs j) (switches bs)) (ltb (exitOf bs j) (switches bs)) (lt-ltb (ingressOf bs j) (switches bs) (e .0)) (lt-ltb (exitOf bs j) (switches bs) (e .1)));
@@ -244,5 +244,5 @@ module _ (bs : List ℕ) where
         few = one-passes n D (newFrom bs) 0 _ (leb (length (moversOf bs)) 16) (omega (arith, l .ends-there)) (le-leb (length (moversOf bs)) 16 (l .few-movers));
       }
 
-  pub none-from-lawful : Lawful bs → firstFault bs ≡ None
+  pub none-from-lawful : LawfulSheet bs → firstFault bs ≡ None
   none-from-lawful l = sections-clear (sections-from-lawful l)

@@ -12,10 +12,10 @@ use Rattle.std.proofs.shelf.Tests.{lt-ltb}
 use Rattle.sets.specs.Sets.{Exactly, members}
 use Rattle.sets.proofs.Laws.{chosen-from-members}
 use Rattle.sheet.specs.declared.fault.Fault.{Fault}
-use Rattle.cases.specs.Lawful.{HopsFit, Lawful, none-told, isLawful}
+use Rattle.cases.specs.Lawful.{HopsFit, LawfulSheet, none-told, isLawful}
 use Rattle.sheet.specs.Layout.{switches, links, flows, endsFrom, tableAt, oldFrom, newFrom, oldTable, newTable, maskFrom, neededFrom, moversOf, ofFlow}
 use Rattle.sheet.specs.Pieces.{firstFault}
-use Rattle.records.specs.Tables.{hopAt, HopsInside, Mover, moves, movers}
+use Rattle.records.specs.Tables.{hopAt, HopsInside, Mover, rowsDiffer, movers}
 use Rattle.cases.proofs.Lawfuls.{lawful-from-none}
 use Rattle.records.proofs.Rows.{chosen-movers}
 use Rattle.sheet.proofs.Wholes.{table-size}
@@ -25,7 +25,7 @@ none-from-test None e = refl
 none-from-test (Some x) e = absurd (let z : _≡_ {A = ℕ} 0 1 = cc in omega arith)
 
 module _ (bs : List ℕ) (law : isLawful bs ≡ true) where
-  pub lawful-of : Lawful bs
+  pub lawful-of : LawfulSheet bs
   lawful-of = lawful-from-none bs (none-from-test (firstFault bs) law)
 
   pub ends-inside : (j : ℕ) → j < flows bs → endsFrom bs j + 2 ≤ length bs
@@ -51,7 +51,7 @@ module _ (bs : List ℕ) (law : isLawful bs ≡ true) where
       (omega (arith, table-size bs (oldFrom bs) old-inside))
       (omega (arith, table-size bs (newFrom bs) new-inside))
       m
-      (chosen-from-members m (moves (flows bs) (oldTable bs) (newTable bs)) (switches bs) small listed)
+      (chosen-from-members m (rowsDiffer (flows bs) (oldTable bs) (newTable bs)) (switches bs) small listed)
 
 -- the answer for a flow that there is
 pub of-flow : (f k j v w : ℕ) → f ≡ k → j < f → v ≡ w → Some v ≡ ofFlow k j w

@@ -16,7 +16,7 @@ use Rattle.sheet.specs.declared.fault.Fault.{Fault}
 use Rattle.sheet.specs.declared.fault.Section.{Section}
 use Rattle.sheet.specs.Faults.{faultOf}
 use Rattle.cases.specs.Lawful.{Passes, CutShort, TestFails, FirstFails}
-use Rattle.sheet.specs.Pieces.{Test, Piece, orElse, failing, wrong, firstWrong, pieces, firstFault}
+use Rattle.sheet.specs.Pieces.{Test, Piece, orLater, failing, wrong, firstWrong, sheetPieces, firstFault}
 use Rattle.sheet.proofs.Firsts.{first-append}
 
 -- ---- tests
@@ -109,7 +109,7 @@ record Split (bs : List ℕ) (ps : List Piece) (e : Fault) : Type 0 where
   earlier : All (Passes bs) before
   fails : Fails bs piece e
 
-split-by : (bs : List ℕ) (p : Piece) (ps : List Piece) (e : Fault) (o : Option Fault) → wrong (length bs) p ≡ o → orElse o (firstWrong (length bs) ps) ≡ Some e → (firstWrong (length bs) ps ≡ Some e → Split bs ps e) → Split bs (p ∷ ps) e
+split-by : (bs : List ℕ) (p : Piece) (ps : List Piece) (e : Fault) (o : Option Fault) → wrong (length bs) p ≡ o → orLater o (firstWrong (length bs) ps) ≡ Some e → (firstWrong (length bs) ps ≡ Some e → Split bs ps e) → Split bs (p ∷ ps) e
 split-by bs p ps e None w h rest =
     let r = rest h in
     record { before = p ∷ r .before; piece = r .piece; after = r .after; split = ap (λ l. p ∷ l) (r .split); earlier = (passes-from-none bs p w, r .earlier); fails = r .fails }
@@ -120,12 +120,12 @@ split-from-first bs [] e h = absurd (let z : _≡_ {A = ℕ} 0 1 = cc in omega a
 split-from-first bs (p ∷ ps) e h = split-by bs p ps e (wrong (length bs) p) refl h (split-from-first bs ps e)
 
 first-from-split : (bs : List ℕ) (before : List Piece) (p : Piece) (after : List Piece) (e : Fault) → All (Passes bs) before → Fails bs p e → firstWrong (length bs) (before ++ (p ∷ after)) ≡ Some e
-first-from-split bs [] p after e ok f = ap (λ o. orElse o (firstWrong (length bs) after)) (some-from-fails bs p e f)
-first-from-split bs (q ∷ before) p after e ok f = ap (λ o. orElse o (firstWrong (length bs) (before ++ (p ∷ after)))) (none-from-passes bs q (ok .0)) ∙ first-from-split bs before p after e (ok .1) f
+first-from-split bs [] p after e ok f = ap (λ o. orLater o (firstWrong (length bs) after)) (some-from-fails bs p e f)
+first-from-split bs (q ∷ before) p after e ok f = ap (λ o. orLater o (firstWrong (length bs) (before ++ (p ∷ after)))) (none-from-passes bs q (ok .0)) ∙ first-from-split bs before p after e (ok .1) f
 
 pub first-fails : (bs : List ℕ) (e : Fault) → firstFault bs ≡ Some e → FirstFails bs e
 first-fails bs e h =
-    let r = split-from-first bs (pieces bs) e h in
+    let r = split-from-first bs (sheetPieces bs) e h in
     record { before = r .before; piece = r .piece; after = r .after; split = r .split; earlier = r .earlier; fails = r .fails }
 
 pub fails-first : (bs : List ℕ) (e : Fault) → FirstFails bs e → firstFault bs ≡ Some e

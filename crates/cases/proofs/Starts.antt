@@ -15,7 +15,7 @@ use Rattle.std.proofs.shelf.Bits.{mul-le}
 use Rattle.std.proofs.shelf.Lists.{getD-take, length-take, take-all, take-take}
 use Rattle.std.proofs.shelf.Parts.{between-is}
 use Rattle.std.proofs.shelf.Tests.{cases-lt, le-leb, lt-leb}
-use Rattle.records.specs.Masks.{bytesAt, maskAt, within, maskFits, linksFit}
+use Rattle.records.specs.Masks.{bytesAt, maskAt, inRange, maskFits, linksFit}
 use Rattle.records.specs.Tables.{rowSize, rowFits}
 use Rattle.records.proofs.Rows.{row-inside}
 use Rattle.sheet.specs.declared.fault.FaultKind.{FaultKind}
@@ -25,30 +25,30 @@ use Rattle.sheet.specs.declared.fault.Section.{Section}
 use Rattle.sheet.specs.declared.fault.Section.the-variants.{A, B, C, D, E}
 use Rattle.sheet.specs.Faults.{faultOf}
 use Rattle.sheet.specs.Layout.{byteAt, switches, linksFrom, links, flows, flowsFrom, endsFrom, rowFrom, oldFrom, newFrom, maskFrom, neededFrom, sheetEnd}
-use Rattle.sheet.specs.Pieces.{Piece, testOf, orElse, failing, wrong, firstWrong, piece, switchCount, linkMask, flowCount, flowEnds, sameCount, switchRow, neededMask, noMore, fewMovers, counted, sectionA, sectionB, tableSection, neededSection, pieces, firstFault}
+use Rattle.sheet.specs.Pieces.{Piece, testOf, orLater, failing, wrong, firstWrong, piece, switchCount, linkMask, flowCount, flowEnds, sameCount, switchRow, neededMask, noMore, fewMovers, counted, sectionA, sectionB, tableSection, neededSection, sheetPieces, firstFault}
 use Rattle.sheet.proofs.Firsts.{first-append}
 use Rattle.cases.proofs.Lawfuls.{lawful-from-none, Right, section-right, within-right, one-right}
 
 -- ---- equal faults, piece by piece
 
-orElse-same : (a x b y : Option Fault) → a ≡ x → (x ≡ None → b ≡ y) → orElse a b ≡ orElse x y
-orElse-same a None b y e h = ap (λ o. orElse o b) e ∙ h refl
-orElse-same a (Some z) b y e h = ap (λ o. orElse o b) e
+orLater-same : (a x b y : Option Fault) → a ≡ x → (x ≡ None → b ≡ y) → orLater a b ≡ orLater x y
+orLater-same a None b y e h = ap (λ o. orLater o b) e ∙ h refl
+orLater-same a (Some z) b y e h = ap (λ o. orLater o b) e
 
 items-same : (n k : ℕ) (f g : ℕ → Piece) (m a : ℕ) → ((i : ℕ) → a ≤ i → i < a + m → wrong n (f i) ≡ wrong k (g i)) → firstWrong n (map f (counting a m)) ≡ firstWrong k (map g (counting a m))
 items-same n k f g zero a all = refl
 items-same n k f g (suc m) a all =
-    orElse-same (wrong n (f a)) (wrong k (g a)) (firstWrong n (map f (counting (a + 1) m))) (firstWrong k (map g (counting (a + 1) m)))
+    orLater-same (wrong n (f a)) (wrong k (g a)) (firstWrong n (map f (counting (a + 1) m))) (firstWrong k (map g (counting (a + 1) m)))
     (all a (omega arith) (omega arith))
     (λ _. items-same n k f g m (a + 1) (λ i low high. all i (omega arith) (omega arith)))
 
 counted-same : (n k : ℕ) (p q : Piece) (f g : ℕ → Piece) (l m : ℕ) → wrong n p ≡ wrong k q → l ≡ m → (wrong k q ≡ None → (i : ℕ) → i < m → wrong n (f i) ≡ wrong k (g i)) → firstWrong n (counted p f l) ≡ firstWrong k (counted q g m)
 counted-same n k p q f g l m head e all =
-    orElse-same (wrong n p) (wrong k q) (firstWrong n (map f (counting 0 l))) (firstWrong k (map g (counting 0 m))) head
+    orLater-same (wrong n p) (wrong k q) (firstWrong n (map f (counting 0 l))) (firstWrong k (map g (counting 0 m))) head
     (λ none. ap (λ j. firstWrong n (map f (counting 0 j))) e ∙ items-same n k f g m 0 (λ i low high. all none i (omega arith)))
 
 joined-same : (n k : ℕ) (ps qs us vs : List Piece) → firstWrong n ps ≡ firstWrong k us → (firstWrong k us ≡ None → firstWrong n qs ≡ firstWrong k vs) → firstWrong n (ps ++ qs) ≡ firstWrong k (us ++ vs)
-joined-same n k ps qs us vs e h = first-append n ps qs ∙ orElse-same (firstWrong n ps) (firstWrong k us) (firstWrong n qs) (firstWrong k vs) e h ∙ sym (first-append k us vs)
+joined-same n k ps qs us vs e h = first-append n ps qs ∙ orLater-same (firstWrong n ps) (firstWrong k us) (firstWrong n qs) (firstWrong k vs) e h ∙ sym (first-append k us vs)
 
 piece-same : (c : Section) (p q k m : ℕ) (kind : FaultKind) (x y : Bool) → p ≡ q → k ≡ m → x ≡ y → piece c p k kind x ≡ piece c q m kind y
 piece-same c p q k m kind x y ep ek ex = ap (λ a. piece c a k kind x) ep ∙ ap (λ a. piece c q a kind x) ek ∙ ap (λ a. piece c q m kind a) ex
@@ -89,10 +89,10 @@ module _ (bs : List ℕ) (k : ℕ) (long : k < length bs) (enough : 1622 ≤ k) 
   unfolding sectionA
   a-same =
       counted-same (length cs) (length bs) (switchCount cs) (switchCount bs) (linkMask cs) (linkMask bs) (switches cs) (switches bs)
-      (same (switchCount cs) (switchCount bs) (ap (λ n. piece A 0 1 SwitchCount (within 64 n)) n-same) (omega arith))
+      (same (switchCount cs) (switchCount bs) (ap (λ n. piece A 0 1 SwitchCount (inRange 64 n)) n-same) (omega arith))
       n-same
       (λ none s h.
-      let few = within-right 64 (switches bs) (one-right (length bs) A 0 1 SwitchCount (within 64 (switches bs)) none .1) in
+      let few = within-right 64 (switches bs) (one-right (length bs) A 0 1 SwitchCount (inRange 64 (switches bs)) none .1) in
       same (linkMask cs s) (linkMask bs s) (ap (λ n. piece A (linksFrom s) 8 LinkMask (linksFit n s (links cs s))) n-same ∙ ap (λ m. piece A (linksFrom s) 8 LinkMask (linksFit (switches bs) s m)) (links-same s (omega (arith, few .1, h)))) (omega (arith, few .1, h)))
 
   module _ (few : switches bs ≤ 64) where
@@ -106,10 +106,10 @@ module _ (bs : List ℕ) (k : ℕ) (long : k < length bs) (enough : 1622 ≤ k) 
     unfolding sectionB
     b-same =
         counted-same (length cs) (length bs) (flowCount cs) (flowCount bs) (λ j. flowEnds cs (endsFrom cs j)) (λ j. flowEnds bs (endsFrom bs j)) (flows cs) (flows bs)
-        (same (flowCount cs) (flowCount bs) (piece-same B (flowsFrom cs) (flowsFrom bs) 1 1 FlowCount (within 8 (flows cs)) (within 8 (flows bs)) (ap linksFrom n-same) refl (ap (within 8) f-same)) (omega (arith, few)))
+        (same (flowCount cs) (flowCount bs) (piece-same B (flowsFrom cs) (flowsFrom bs) 1 1 FlowCount (inRange 8 (flows cs)) (inRange 8 (flows bs)) (ap linksFrom n-same) refl (ap (inRange 8) f-same)) (omega (arith, few)))
         f-same
         (λ none j h.
-        let light = within-right 8 (flows bs) (one-right (length bs) B (flowsFrom bs) 1 FlowCount (within 8 (flows bs)) none .1) in
+        let light = within-right 8 (flows bs) (one-right (length bs) B (flowsFrom bs) 1 FlowCount (inRange 8 (flows bs)) none .1) in
         let p = endsFrom bs j in
         let low : p + 2 ≤ k = omega (arith, few, light .1, h) in
         let e : flowEnds cs p ≡ flowEnds bs p = piece-same B p p 2 2 FlowEnds (ltb (byteAt cs p) (switches cs) && ltb (byteAt cs (p + 1)) (switches cs)) (ltb (byteAt bs p) (switches bs) && ltb (byteAt bs (p + 1)) (switches bs)) refl refl (ap (λ n. ltb (byteAt cs p) n && ltb (byteAt cs (p + 1)) n) n-same ∙ ap (λ x. ltb x (switches bs) && ltb (byteAt cs (p + 1)) (switches bs)) (byte-same p (omega arith)) ∙ ap (λ x. ltb (byteAt bs p) (switches bs) && ltb x (switches bs)) (byte-same (p + 1) (omega arith))) in
@@ -184,11 +184,11 @@ module _ (bs : List ℕ) (k : ℕ) (long : k < length bs) (enough : 1622 ≤ k) 
 
   few-from-a : firstWrong (length bs) (sectionA bs) ≡ None → switches bs ≤ 64
   unfolding sectionA
-  few-from-a none = within-right 64 (switches bs) (one-right (length bs) A 0 1 SwitchCount (within 64 (switches bs)) (section-right (length bs) (switchCount bs) (linkMask bs) (switches bs) none .first) .1) .1
+  few-from-a none = within-right 64 (switches bs) (one-right (length bs) A 0 1 SwitchCount (inRange 64 (switches bs)) (section-right (length bs) (switchCount bs) (linkMask bs) (switches bs) none .first) .1) .1
 
   light-from-b : firstWrong (length bs) (sectionB bs) ≡ None → flows bs ≤ 8
   unfolding sectionB
-  light-from-b none = within-right 8 (flows bs) (one-right (length bs) B (flowsFrom bs) 1 FlowCount (within 8 (flows bs)) (section-right (length bs) (flowCount bs) (λ j. flowEnds bs (endsFrom bs j)) (flows bs) none .first) .1) .1
+  light-from-b none = within-right 8 (flows bs) (one-right (length bs) B (flowsFrom bs) 1 FlowCount (inRange 8 (flows bs)) (section-right (length bs) (flowCount bs) (λ j. flowEnds bs (endsFrom bs j)) (flows bs) none .first) .1) .1
 
   abbrev tail : List ℕ → List Piece
   tail ds = noMore ds ∷ (fewMovers ds ∷ [])
@@ -206,7 +206,7 @@ module _ (bs : List ℕ) (k : ℕ) (long : k < length bs) (enough : 1622 ≤ k) 
   from-b ds = sectionB ds ++ from-c ds
 
   pub start-same : firstFault cs ≡ firstFault bs
-  unfolding pieces
+  unfolding sheetPieces
   start-same =
       joined-same (length cs) (length bs) (sectionA cs) (from-b cs) (sectionA bs) (from-b bs) a-same (λ a.
       let few = few-from-a a in
@@ -216,7 +216,7 @@ module _ (bs : List ℕ) (k : ℕ) (long : k < length bs) (enough : 1622 ≤ k) 
       joined-same (length cs) (length bs) (tableSection cs C (oldFrom cs)) (from-d cs) (tableSection bs C (oldFrom bs)) (from-d bs) (table-same few light C (oldFrom cs) (oldFrom bs) (old-same few light) (omega (arith, few, light))) (λ _.
       joined-same (length cs) (length bs) (tableSection cs D (newFrom cs)) (from-e cs) (tableSection bs D (newFrom bs)) (from-e bs) (table-same few light D (newFrom cs) (newFrom bs) (new-same few light) (omega (arith, few, light, product))) (λ _.
       joined-same (length cs) (length bs) (neededSection cs (neededFrom cs)) (tail cs) (neededSection bs (neededFrom bs)) (tail bs) (e-same few light) (λ _.
-      orElse-same (wrong (length cs) (noMore cs)) (wrong (length bs) (noMore bs)) (firstWrong (length cs) (fewMovers cs ∷ [])) (firstWrong (length bs) (fewMovers bs ∷ [])) (more-same few light) (λ none. absurd (more-some few light none)))))))
+      orLater-same (wrong (length cs) (noMore cs)) (wrong (length bs) (noMore bs)) (firstWrong (length cs) (fewMovers cs ∷ [])) (firstWrong (length bs) (fewMovers bs ∷ [])) (more-same few light) (λ none. absurd (more-some few light none)))))))
 
 -- what is told of a sheet is told of its first 1,622 bytes
 pub first-bytes : (bs : List ℕ) → firstFault (take 1622 bs) ≡ firstFault bs

@@ -8,12 +8,12 @@ use lib.ListN.{length}
 use Rattle.std.specs.shelf.Lists.{All}
 use Rattle.std.specs.declared.option.Option.{Option}
 use Rattle.std.specs.declared.option.Option.the-variants.{Some, None}
-use Rattle.sets.specs.Sets.{Member}
+use Rattle.sets.specs.Sets.{InSet}
 use Rattle.sheet.specs.declared.fault.FaultKind.the-variants.{EndsTooSoon}
 use Rattle.sheet.specs.declared.fault.Fault.{Fault}
 use Rattle.sheet.specs.Faults.{faultOf}
 use Rattle.sheet.specs.Layout.{byteAt, switches, links, flows, ingressOf, exitOf, oldFrom, newFrom, oldTable, newTable, neededFrom, neededOf, sheetEnd, moversOf}
-use Rattle.sheet.specs.Pieces.{Test, Piece, pieces, firstFault}
+use Rattle.sheet.specs.Pieces.{Test, Piece, sheetPieces, firstFault}
 use Rattle.records.specs.Tables.{rowSize, hopAt, HopFits}
 
 -- every hop of a table of the sheet is none, or goes to a linked switch
@@ -21,15 +21,15 @@ abbrev pub HopsFit : List ℕ → List ℕ → Type 0
 HopsFit bs table = (s j : ℕ) → s < switches bs → j < rowSize (flows bs) → HopFits (links bs s) (hopAt (flows bs) table s j)
 
 -- a sheet with no fault
-pub record Lawful (bs : List ℕ) : Type 0 where
+pub record LawfulSheet (bs : List ℕ) : Type 0 where
   pub some-switches : (0 < switches bs) × (switches bs ≤ 64)
-  pub linked : (s t : ℕ) → s < switches bs → Member (links bs s) t → (t < switches bs) × (t ≡ s → ⊥)
+  pub linked : (s t : ℕ) → s < switches bs → InSet (links bs s) t → (t < switches bs) × (t ≡ s → ⊥)
   pub some-flows : (0 < flows bs) × (flows bs ≤ 8)
   pub ends : (j : ℕ) → j < flows bs → (ingressOf bs j < switches bs) × (exitOf bs j < switches bs)
   pub counts : (byteAt bs (oldFrom bs) ≡ switches bs) × (byteAt bs (newFrom bs) ≡ switches bs) × (byteAt bs (neededFrom bs) ≡ flows bs)
   pub old-hops : HopsFit bs (oldTable bs)
   pub new-hops : HopsFit bs (newTable bs)
-  pub needs : (j t : ℕ) → j < flows bs → Member (neededOf bs j) t → t < switches bs
+  pub needs : (j t : ℕ) → j < flows bs → InSet (neededOf bs j) t → t < switches bs
   pub ends-there : length bs ≡ sheetEnd bs
   pub few-movers : length (moversOf bs) ≤ 16
 
@@ -59,7 +59,7 @@ pub record FirstFails (bs : List ℕ) (e : Fault) : Type 0 where
   pub before : List Piece
   pub piece : Piece
   pub after : List Piece
-  pub split : pieces bs ≡ before ++ (piece ∷ after)
+  pub split : sheetPieces bs ≡ before ++ (piece ∷ after)
   pub earlier : All (Passes bs) before
   pub fails : CutShort bs piece e ⊎ TestFails bs piece e
 

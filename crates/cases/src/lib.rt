@@ -8,10 +8,10 @@ ghost use Rattle.std.specs.Options.{Cases as BySome};
 ghost use Rattle.std.specs.Orderings.{Decides};
 ghost use Rattle.std.specs.Results.{Cases as ByOk, isOk};
 ghost use Rattle.std.specs.declared.option.Option.the-variants.{Some};
-ghost use Rattle.sets.specs.Sets.{AllBelow, Exactly, members};
+ghost use Rattle.sets.specs.Sets.{MembersBelow, Exactly, members};
 ghost use Rattle.sheet.specs.declared.fault.Fault.{Fault as FaultT};
 ghost use Rattle.sheet.specs.Faults.{toldBy};
-ghost use Rattle.cases.specs.Lawful.{Lawful, FirstFails, isLawful};
+ghost use Rattle.cases.specs.Lawful.{LawfulSheet, FirstFails, isLawful};
 ghost use Rattle.sheet.specs.Layout.{switches as switchesOf, flows as flowsOf, ingressOf, exitOf, neededOf, oldTable, newTable, moversOf, ofFlow, smallestSheet, endsFrom, oldFrom, newFrom, neededFrom, maskFrom};
 ghost use Rattle.sheet.specs.Pieces.{firstFault};
 ghost use Rattle.records.specs.Masks.{bytesAt};
@@ -91,7 +91,7 @@ impl<'a> Case<'a> {
     // The set of switches that flow j needs, if there is such a flow.
     pub fn needed(&self, j: u8) -> Option<u64>
         ensures value { λ r. ⌜ r ≡ ofFlow (flowsOf (now (now (self .entry) .sheet))) j (neededOf (now (now (self .entry) .sheet)) j) ⌝ }
-        ensures inside { λ r. ⌜ BySome r (Unit {0}) (λ m. AllBelow (switchesOf (now (now (self .entry) .sheet))) m) ⌝ }
+        ensures inside { λ r. ⌜ BySome r (Unit {0}) (λ m. MembersBelow (switchesOf (now (now (self .entry) .sheet))) m) ⌝ }
     {
         if j < self.flows {
             mask_at(self.sheet, self.needed_from() + 8 * j as usize)
@@ -180,8 +180,8 @@ impl<'a> Case<'a> {
 // Reads a sheet into the place, or tells its first fault and leaves the place as it was.
 pub fn read<'a>(sheet: &'a [u8], case: &mut Case<'a>) -> Result<(), Fault>
     ensures tells { λ r. ⌜ toldBy r ≡ firstFault (now (sheet .entry)) ⌝ }
-    ensures lawful { λ r. ⌜ Decides (isOk r) (Lawful (now (sheet .entry))) ⌝ }
-    ensures faulty { λ r. ⌜ ByOk r (λ _. Lawful (now (sheet .entry))) (λ e. FirstFails (now (sheet .entry)) e) ⌝ }
+    ensures lawful { λ r. ⌜ Decides (isOk r) (LawfulSheet (now (sheet .entry))) ⌝ }
+    ensures faulty { λ r. ⌜ ByOk r (λ _. LawfulSheet (now (sheet .entry))) (λ e. FirstFails (now (sheet .entry)) e) ⌝ }
     ensures exactly { λ r. ⌜ ((e : FaultT) → FirstFails (now (sheet .entry)) e → toldBy r ≡ Some e) ⌝ }
     ensures held { λ r. ⌜ ByOk r (λ _. now (now (case .exit) .sheet) ≡ now (sheet .entry)) (λ _. now (case .exit) ≡ now (case .entry)) ⌝ }
 {

@@ -14,7 +14,7 @@ use Rattle.std.specs.Written.{decimal}
 use Rattle.std.specs.shelf.Lists.{kept-by}
 use Rattle.std.proofs.shelf.Lists.{append-nil, append-assoc, take-all}
 use Rattle.std.proofs.shelf.Tests.{eq-eqb, ne-eqb, cases-lt}
-use Rattle.sets.specs.Sets.{bit, Member, members}
+use Rattle.sets.specs.Sets.{bit, InSet, members}
 use Rattle.sets.proofs.Laws.{kept-more}
 use Rattle.sheet.specs.declared.fault.Fault.{Fault}
 use Rattle.sheet.specs.declared.fault.Section.{Section}
@@ -53,12 +53,12 @@ Spelt set s text = text ≡ moversText (kept-by (λ t. eqb (bit set t) 1) (count
 next : (set s : ℕ) (b : Bool) → eqb (bit set s) 1 ≡ b → kept-by (λ t. eqb (bit set t) 1) (counting 0 (s + 1)) ≡ kept-by (λ t. eqb (bit set t) 1) (counting 0 s) ++ cond b (s ∷ []) []
 next set s b e = kept-more (λ t. eqb (bit set t) 1) s ∙ ap (λ x. kept-by (λ t. eqb (bit set t) 1) (counting 0 s) ++ cond x (s ∷ []) []) e
 
-pub spelt-with : (set s : ℕ) (text new : List ℕ) → Spelt set s text → Member set s → new ≡ text ++ (codes " " ++ decimal s) → Spelt set (s + 1) new
+pub spelt-with : (set s : ℕ) (text new : List ℕ) → Spelt set s text → InSet set s → new ≡ text ++ (codes " " ++ decimal s) → Spelt set (s + 1) new
 spelt-with set s text new before in′ put =
     put ∙ ap (λ t. t ++ (codes " " ++ decimal s)) before ∙ sym (movers-push (kept-by (λ t. eqb (bit set t) 1) (counting 0 s)) s)
     ∙ sym (ap moversText (next set s true (eq-eqb (bit set s) 1 in′)))
 
-pub spelt-skip : (set s : ℕ) (text : List ℕ) → Spelt set s text → (Member set s → ⊥) → Spelt set (s + 1) text
+pub spelt-skip : (set s : ℕ) (text : List ℕ) → Spelt set s text → (InSet set s → ⊥) → Spelt set (s + 1) text
 spelt-skip set s text before out =
     before ∙ ap moversText (sym (append-nil (kept-by (λ t. eqb (bit set t) 1) (counting 0 s)))) ∙ sym (ap moversText (next set s false (ne-eqb (bit set s) 1 out)))
 

@@ -15,7 +15,7 @@ use Rattle.std.proofs.shelf.Lists.{getD-take, getD-drop, length-take, length-dr
 use Rattle.std.proofs.shelf.Tests.{and-cases, eqb-false, not-true, not-from-false, cases-bool, both-ways}
 use Rattle.sets.specs.Sets.{Exactly}
 use Rattle.sets.proofs.Laws.{Chosen}
-use Rattle.records.specs.Tables.{rowSize, tableRow, hopAt, Mover, moves}
+use Rattle.records.specs.Tables.{rowSize, tableRow, hopAt, Mover, rowsDiffer}
 
 -- the row of a switch below n lies within a table of n rows
 pub row-inside : (n f s size : ℕ) → s < n → n * f ≤ size → s * f + f ≤ size
@@ -39,7 +39,7 @@ parted (x ∷ xs) (y ∷ ys) l e =
     ]
 
 module _ (n f : ℕ) (old new : List ℕ) (in-old : n * f ≤ length old) (in-new : n * f ≤ length new) where
-  pub mover-from-moves : (s : ℕ) → s < n → moves f old new s ≡ true → Mover n f old new s
+  pub mover-from-moves : (s : ℕ) → s < n → rowsDiffer f old new s ≡ true → Mover n f old new s
   mover-from-moves s h e =
       let lo = row-length f old s (row-inside n f s (length old) h in-old) in
       let ln = row-length f new s (row-inside n f s (length new) h in-new) in
@@ -47,7 +47,7 @@ module _ (n f : ℕ) (old new : List ℕ) (in-old : n * f ≤ length old) (in-ne
       let less : p .0 < f = omega (arith, p .1, lo) in
       record { inside = h; place = (p .0, less, (λ same. p .2 (row-hop f old s (p .0) less ∙ same ∙ sym (row-hop f new s (p .0) less)))) }
 
-  pub moves-from-mover : (s : ℕ) → Mover n f old new s → moves f old new s ≡ true
+  pub moves-from-mover : (s : ℕ) → Mover n f old new s → rowsDiffer f old new s ≡ true
   moves-from-mover s m =
       let j = m .place .0 in
       elim (cases-bool (sameBytes (tableRow f old s) (tableRow f new s))) [
@@ -57,7 +57,7 @@ module _ (n f : ℕ) (old new : List ℕ) (in-old : n * f ≤ length old) (in-ne
         | inr e ↦ not-from-false (sameBytes (tableRow f old s) (tableRow f new s)) e
       ]
 
-  pub chosen-movers : (m : ℕ) → Chosen m (moves f old new) n → Exactly m (λ s. Mover n f old new s)
+  pub chosen-movers : (m : ℕ) → Chosen m (rowsDiffer f old new) n → Exactly m (λ s. Mover n f old new s)
   chosen-movers m only = record {
     each = λ s h. mover-from-moves s (only .each s h .0) (only .each s h .1);
     all = λ s h. only .all s (h .inside, moves-from-mover s h);

@@ -16,8 +16,8 @@ abbrev pub maskAt : List ℕ → ℕ → ℕ
 maskAt bs p = number 256 (bytesAt bs p 8)
 
 -- a number from 1 to most
-abbrev pub within : ℕ → ℕ → Bool
-within most k = ltb 0 k && leb k most
+abbrev pub inRange : ℕ → ℕ → Bool
+inRange most k = ltb 0 k && leb k most
 
 -- every member of the set m is below n
 abbrev pub maskFits : ℕ → ℕ → Bool

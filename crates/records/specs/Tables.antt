@@ -9,7 +9,7 @@ use lib.ListN.{length, getD, take, drop}
 use Rattle.std.specs.Iters.{counting}
 use Rattle.std.specs.shelf.Lists.{kept-by}
 use Rattle.std.specs.shelf.Text.{sameBytes}
-use Rattle.sets.specs.Sets.{bit, Member, Exactly, members}
+use Rattle.sets.specs.Sets.{bit, InSet, Exactly, members}
 
 -- how many bytes a row has where there are f flows: an entry is one byte wide
 abbrev pub rowSize : ℕ → ℕ
@@ -25,7 +25,7 @@ hopAt f table s j = getD table (s * rowSize f + j) 0
 
 -- a hop at a switch whose links are the set m: 255 for none, or a linked switch
 abbrev pub HopFits : ℕ → ℕ → Type 0
-HopFits m h = (h ≡ 255) ⊎ Member m h
+HopFits m h = (h ≡ 255) ⊎ InSet m h
 
 -- the same as a test
 abbrev pub hopFits : ℕ → ℕ → Bool
@@ -42,12 +42,12 @@ pub record Mover (n f : ℕ) (old new : List ℕ) (s : ℕ) : Type 0 where
   pub place : (j : ℕ) × (j < rowSize f) × (hopAt f old s j ≡ hopAt f new s j → ⊥)
 
 -- whether the two rows of s differ
-abbrev pub moves : ℕ → List ℕ → List ℕ → ℕ → Bool
-moves f old new s = not (sameBytes (tableRow f old s) (tableRow f new s))
+abbrev pub rowsDiffer : ℕ → List ℕ → List ℕ → ℕ → Bool
+rowsDiffer f old new s = not (sameBytes (tableRow f old s) (tableRow f new s))
 
 -- the movers among n switches, rising
 unfoldable pub movers : ℕ → ℕ → List ℕ → List ℕ → List ℕ
-movers n f old new = kept-by (moves f old new) (counting 0 n)
+movers n f old new = kept-by (rowsDiffer f old new) (counting 0 n)
 
 -- there are at most 64 switches, and both tables have all their rows
 pub record WholeTables (n f : ℕ) (old new : List ℕ) : Type 0 where

@@ -6,7 +6,7 @@ ghost use lib.Dec.{leb};
 ghost use lib.ListN.{length};
 ghost use Rattle.std.specs.declared.option.Option.the-variants.{Some, None};
 ghost use Rattle.std.specs.shelf.Digits.{number};
-ghost use Rattle.records.specs.Masks.{maskAt, within as withinOf, maskFits, linksFit};
+ghost use Rattle.records.specs.Masks.{maskAt, inRange as withinOf, maskFits, linksFit};
 ghost use Rattle.records.specs.Tables.{rowFits, hopFits};
 
 // Whether a count is from 1 to most.

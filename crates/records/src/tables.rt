@@ -3,7 +3,7 @@ ghost use mathlib.Core.Path.{_≡_};
 ghost use Prim.Native.Nat.{_+_, _*_, _≤_};
 ghost use lib.ListN.{length};
 ghost use Rattle.std.specs.Options.{Cases as BySome};
-ghost use Rattle.records.specs.Tables.{rowSize, tableRow, moves as movesOf, WholeTables, MoverSet};
+ghost use Rattle.records.specs.Tables.{rowSize, tableRow, rowsDiffer as movesOf, WholeTables, MoverSet};
 
 // Row s of a table for f flows.
 fn row(table: &[u8], f: u8, s: u8) -> &[u8]

@@ -18,17 +18,17 @@ use Rattle.std.proofs.shelf.Bits.{pow-below, pow-pos, shr-shr, div-below, div-a
 use Rattle.std.proofs.shelf.Tests.{cases-eq, cases-lt, eq-eqb, ne-eqb, eqb-true, ltb-true, lt-ltb, both-ways}
 use Rattle.std.proofs.shelf.Elements.{kept-by-append}
 use Rattle.std.proofs.shelf.Lists.{append-nil}
-use Rattle.sets.specs.Sets.{bit, Member, Exactly, PartOf, Apart, SameMembers, AllBelow, Empty, Lowest, members}
+use Rattle.sets.specs.Sets.{bit, InSet, Exactly, PartOf, Disjoint, SameMembers, MembersBelow, Empty, Lowest, members}
 use Rattle.sets.proofs.Bits.{bit-or, bit-and, bit-xor, bit-shr, bit-half, bit-zero, bit-high, bit-one, bit-other, no-bits, same-bits}
 
 -- s is a member of m, or its bit is 0
-pub cases-member : (m s : ℕ) → Member m s ⊎ (bit m s ≡ 0)
+pub cases-member : (m s : ℕ) → InSet m s ⊎ (bit m s ≡ 0)
 cases-member m s = elim (cases-eq (bit m s) 1) [ inl h ↦ inl h | inr ne ↦ inr (omega arith) ]
 
-pub not-member : (m s : ℕ) → (Member m s → ⊥) → bit m s ≡ 0
+pub not-member : (m s : ℕ) → (InSet m s → ⊥) → bit m s ≡ 0
 not-member m s out = elim (cases-member m s) [ inl h ↦ absurd (out h) | inr z ↦ z ]
 
-pub no-member : (m s : ℕ) → bit m s ≡ 0 → Member m s → ⊥
+pub no-member : (m s : ℕ) → bit m s ≡ 0 → InSet m s → ⊥
 no-member m s z h = omega arith
 
 -- sets with the same members are equal
@@ -39,25 +39,25 @@ pub exactly-one : {P : ℕ → Type 0} (a b : ℕ) → Exactly a P → Exactly b
 exactly-one a b ea eb = same-members a b (λ s h. eb .all s (ea .each s h)) (λ s h. ea .all s (eb .each s h))
 
 -- union
-pub or-members : (a b : ℕ) → Exactly (bitOr a b) (λ t. Member a t ⊎ Member b t)
+pub or-members : (a b : ℕ) → Exactly (bitOr a b) (λ t. InSet a t ⊎ InSet b t)
 or-members a b = record {
   each = λ t h. elim (cases-member a t) [ inl k ↦ inl k | inr z ↦ inr (omega (arith, bit-or a b t, h)) ];
   all = λ t h. elim h [ inl k ↦ omega (arith, bit-or a b t, k) | inr k ↦ omega (arith, bit-or a b t, k) ];
 }
 
 -- intersection
-pub and-members : (a b : ℕ) → Exactly (bitAnd a b) (λ t. Member a t × Member b t)
+pub and-members : (a b : ℕ) → Exactly (bitAnd a b) (λ t. InSet a t × InSet b t)
 and-members a b = record {
   each = λ t h. (omega (arith, bit-and a b t, h), omega (arith, bit-and a b t, h));
   all = λ t h. omega (arith, bit-and a b t, h .0, h .1);
 }
 
 -- the set of one switch
-pub one-member : (s t : ℕ) → Member (2 ^ s) t → t ≡ s
+pub one-member : (s t : ℕ) → InSet (2 ^ s) t → t ≡ s
 one-member s t h = elim (cases-eq s t) [ inl e ↦ sym e | inr ne ↦ absurd (no-member (2 ^ s) t (bit-other s t ne) h) ]
 
 -- one switch more
-pub with-members : (m s : ℕ) → Exactly (bitOr m (2 ^ s)) (λ t. Member m t ⊎ (t ≡ s))
+pub with-members : (m s : ℕ) → Exactly (bitOr m (2 ^ s)) (λ t. InSet m t ⊎ (t ≡ s))
 with-members m s = record {
   each = λ t h. elim (or-members m (2 ^ s) .each t h) [ inl k ↦ inl k | inr k ↦ inr (one-member s t k) ];
   all = λ t h. or-members m (2 ^ s) .all t (elim h [ inl k ↦ inl k | inr e ↦ inr (ap (bit (2 ^ s)) e ∙ bit-one s) ]);
@@ -70,7 +70,7 @@ bit-without m s t ne = omega (arith, bit-xor (bitOr m (2 ^ s)) (2 ^ s) t, bit-or
 bit-gone : (m s : ℕ) → bit (bitXor (bitOr m (2 ^ s)) (2 ^ s)) s ≡ 0
 bit-gone m s = omega (arith, bit-xor (bitOr m (2 ^ s)) (2 ^ s) s, bit-or m (2 ^ s) s, bit-one s)
 
-pub without-members : (m s : ℕ) → Exactly (bitXor (bitOr m (2 ^ s)) (2 ^ s)) (λ t. Member m t × (t ≡ s → ⊥))
+pub without-members : (m s : ℕ) → Exactly (bitXor (bitOr m (2 ^ s)) (2 ^ s)) (λ t. InSet m t × (t ≡ s → ⊥))
 without-members m s = record {
   each = λ t h. elim (cases-eq s t) [
     | inl e ↦ absurd (no-member (bitXor (bitOr m (2 ^ s)) (2 ^ s)) t (ap (bit (bitXor (bitOr m (2 ^ s)) (2 ^ s))) (sym e) ∙ bit-gone m s) h)
@@ -86,7 +86,7 @@ part-test a b = (
   (λ p. eq-eqb (bitAnd a b) a (same-members (bitAnd a b) a (λ t h. and-members a b .each t h .0) (λ t h. and-members a b .all t (h, p t h)))),
 )
 
-pub apart-test : (a b : ℕ) → Decides (eqb (bitAnd a b) 0) (Apart a b)
+pub apart-test : (a b : ℕ) → Decides (eqb (bitAnd a b) 0) (Disjoint a b)
 apart-test a b = (
   (λ e t h k. omega (arith, bit-and a b t, ap (λ m. bit m t) (eqb-true (bitAnd a b) 0 e), bit-zero t, h, k)),
   (λ p. eq-eqb (bitAnd a b) 0 (no-bits (bitAnd a b) (λ t. elim (cases-member a t) [ inl h ↦ omega (arith, bit-and a b t, not-member b t (p t h)) | inr z ↦ omega (arith, bit-and a b t, z) ]))),
@@ -99,10 +99,10 @@ same-test a b = (
 )
 
 -- a set below n is a number below 2 ^ n
-pub below-quotient : (n m : ℕ) → AllBelow n m → m / 2 ^ n ≡ 0
+pub below-quotient : (n m : ℕ) → MembersBelow n m → m / 2 ^ n ≡ 0
 below-quotient n m p = no-bits (m / 2 ^ n) (λ t. bit-shr m n t ∙ not-member m (n + t) (λ h. omega (arith, p (n + t) h)))
 
-pub below-members : (n m : ℕ) → m / 2 ^ n ≡ 0 → AllBelow n m
+pub below-members : (n m : ℕ) → m / 2 ^ n ≡ 0 → MembersBelow n m
 below-members n m z s h =
     elim (cases-lt s n) [
       | inl l ↦ l
@@ -111,13 +111,13 @@ below-members n m z s h =
           absurd (no-member m s (ap (bit m) (sym at) ∙ sym (bit-shr m n (s - n)) ∙ ap (λ k. bit k (s - n)) z ∙ bit-zero (s - n)) h)
     ]
 
-pub below-test : (n m : ℕ) → Decides (eqb (m / 2 ^ n) 0) (AllBelow n m)
+pub below-test : (n m : ℕ) → Decides (eqb (m / 2 ^ n) 0) (MembersBelow n m)
 below-test n m = ((λ e. below-members n m (eqb-true (m / 2 ^ n) 0 e)), (λ p. eq-eqb (m / 2 ^ n) 0 (below-quotient n m p)))
 
-pub below-number : (n m : ℕ) → AllBelow n m → m < 2 ^ n
+pub below-number : (n m : ℕ) → MembersBelow n m → m < 2 ^ n
 below-number n m p = let q = below-quotient n m p in omega (arith, div-add-mod' m (2 ^ n), ap (λ k. k * 2 ^ n) q, mod-below m (2 ^ n) (pow-pos n))
 
-pub number-below : (n m : ℕ) → m < 2 ^ n → AllBelow n m
+pub number-below : (n m : ℕ) → m < 2 ^ n → MembersBelow n m
 number-below n m h = below-members n m (div-eq-of-lt h)
 
 -- how many members there are is how many bits are set
@@ -143,7 +143,7 @@ member-half n t = ap (bit n) (sym (one-add t)) ∙ sym (bit-half n t)
 lowest-above : (n t : ℕ) → n % 2 ≡ 0 → Lowest (n / 2) t → Lowest n (suc t)
 lowest-above n t even low = record { member = member-half n t ∙ low .member; least = least-of }
   where
-    least-of : (u : ℕ) → Member n u → suc t ≤ u
+    least-of : (u : ℕ) → InSet n u → suc t ≤ u
     least-of zero h = absurd (omega (arith, h, even, div-one n))
     least-of (suc u) h = omega (arith, low .least u (sym (member-half n u) ∙ h))
 
@@ -167,10 +167,10 @@ same-answer true b da db = sym (db .1 (da .0 refl))
 same-answer false true da db = da .1 (db .0 refl)
 same-answer false false da db = refl
 
-pub below-ltb : (n m : ℕ) → Decides (ltb m (2 ^ n)) (AllBelow n m)
+pub below-ltb : (n m : ℕ) → Decides (ltb m (2 ^ n)) (MembersBelow n m)
 below-ltb n m = ((λ e. number-below n m (ltb-true m (2 ^ n) e)), (λ p. lt-ltb m (2 ^ n) (below-number n m p)))
 
-pub member-eqb : (m s : ℕ) → Decides (eqb (bit m s) 1) (Member m s)
+pub member-eqb : (m s : ℕ) → Decides (eqb (bit m s) 1) (InSet m s)
 member-eqb m s = ((λ e. eqb-true (bit m s) 1 e), (λ h. eq-eqb (bit m s) 1 h))
 
 -- a set built by a loop that puts in each switch below n of which a test says yes
@@ -180,7 +180,7 @@ Chosen m p n = Exactly m (λ t. (t < n) × (p t ≡ true))
 pub chosen-none : (p : ℕ → Bool) → Chosen 0 p 0
 chosen-none p = record { each = λ t h. absurd (omega (arith, h, bit-zero t)); all = λ t h. absurd (omega (arith, h .0)) }
 
-pub chosen-with : (m r : ℕ) (p : ℕ → Bool) (n : ℕ) → n < 64 → Chosen m p n → p n ≡ true → Exactly r (λ t. Member m t ⊎ ((t ≡ n) × (n < 64))) → Chosen r p (n + 1)
+pub chosen-with : (m r : ℕ) (p : ℕ → Bool) (n : ℕ) → n < 64 → Chosen m p n → p n ≡ true → Exactly r (λ t. InSet m t ⊎ ((t ≡ n) × (n < 64))) → Chosen r p (n + 1)
 chosen-with m r p n small before here put = record {
   each = λ t h. elim (put .each t h) [
     | inl k ↦ (omega (arith, before .each t k .0), before .each t k .1)

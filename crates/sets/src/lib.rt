@@ -5,28 +5,28 @@ ghost use Prim.Native.Nat.{ℕ, _<_};
 ghost use lib.ListN.{length};
 ghost use Rattle.std.specs.Options.{Cases as BySome};
 ghost use Rattle.std.specs.Orderings.{Decides};
-ghost use Rattle.sets.specs.Sets.{Member, Exactly, PartOf, Apart, SameMembers, AllBelow, Empty, Lowest, members};
+ghost use Rattle.sets.specs.Sets.{InSet, Exactly, PartOf, Disjoint, SameMembers, MembersBelow, Empty, Lowest, members};
 
 // How many switches a set can have.
 const WIDTH: u8 = 64;
 
 // Whether switch s is in the set.
 pub fn has(set: u64, s: u8) -> bool
-    ensures { λ r. ⌜ Decides r (Member set s) ⌝ }
+    ensures { λ r. ⌜ Decides r (InSet set s) ⌝ }
 {
     s < WIDTH && (set >> s) & 1 == 1
 }
 
 // The set with switch s as well.
 pub fn with(set: u64, s: u8) -> u64
-    ensures { λ r. ⌜ Exactly r (λ t. Member set t ⊎ ((t ≡ s) × (s < 64))) ⌝ }
+    ensures { λ r. ⌜ Exactly r (λ t. InSet set t ⊎ ((t ≡ s) × (s < 64))) ⌝ }
 {
     if s < WIDTH { set | (1u64 << s) } else { set }
 }
 
 // The set less switch s.
 pub fn without(set: u64, s: u8) -> u64
-    ensures { λ r. ⌜ Exactly r (λ t. Member set t × (t ≡ s → ⊥)) ⌝ }
+    ensures { λ r. ⌜ Exactly r (λ t. InSet set t × (t ≡ s → ⊥)) ⌝ }
 {
     if s < WIDTH {
         let only = 1u64 << s;
@@ -38,7 +38,7 @@ pub fn without(set: u64, s: u8) -> u64
 
 // The union of two sets.
 pub fn joined(a: u64, b: u64) -> u64
-    ensures { λ r. ⌜ Exactly r (λ t. Member a t ⊎ Member b t) ⌝ }
+    ensures { λ r. ⌜ Exactly r (λ t. InSet a t ⊎ InSet b t) ⌝ }
 {
     a | b
 }
@@ -52,7 +52,7 @@ pub fn part_of(a: u64, b: u64) -> bool
 
 // Whether a and b have no switch in common.
 pub fn apart(a: u64, b: u64) -> bool
-    ensures { λ r. ⌜ Decides r (Apart a b) ⌝ }
+    ensures { λ r. ⌜ Decides r (Disjoint a b) ⌝ }
 {
     a & b == 0
 }
@@ -66,7 +66,7 @@ pub fn same(a: u64, b: u64) -> bool
 
 // Whether each switch of the set is below n.
 pub fn below(set: u64, n: u8) -> bool
-    ensures { λ r. ⌜ Decides r (AllBelow n set) ⌝ }
+    ensures { λ r. ⌜ Decides r (MembersBelow n set) ⌝ }
 {
     n >= WIDTH || set >> n == 0
 }

@@ -9,19 +9,19 @@ use Rattle.std.specs.declared.option.Option.{Option}
 use Rattle.std.specs.declared.option.Option.the-variants.{Some, None}
 use Rattle.std.proofs.shelf.Counted.{map-counting-more}
 use Rattle.sheet.specs.declared.fault.Fault.{Fault}
-use Rattle.sheet.specs.Pieces.{Piece, wrong, orElse, firstWrong, counted}
+use Rattle.sheet.specs.Pieces.{Piece, wrong, orLater, firstWrong, counted}
 
-orElse-assoc : (a b c : Option Fault) → orElse (orElse a b) c ≡ orElse a (orElse b c)
-orElse-assoc None b c = refl
-orElse-assoc (Some e) b c = refl
+orLater-assoc : (a b c : Option Fault) → orLater (orLater a b) c ≡ orLater a (orLater b c)
+orLater-assoc None b c = refl
+orLater-assoc (Some e) b c = refl
 
-pub orElse-none : (a b : Option Fault) → orElse a b ≡ None → (a ≡ None) × (b ≡ None)
-orElse-none None b h = (refl, h)
-orElse-none (Some e) b h = absurd (let z : _≡_ {A = ℕ} 0 1 = cc in omega arith)
+pub orLater-none : (a b : Option Fault) → orLater a b ≡ None → (a ≡ None) × (b ≡ None)
+orLater-none None b h = (refl, h)
+orLater-none (Some e) b h = absurd (let z : _≡_ {A = ℕ} 0 1 = cc in omega arith)
 
-pub first-append : (n : ℕ) (ps qs : List Piece) → firstWrong n (ps ++ qs) ≡ orElse (firstWrong n ps) (firstWrong n qs)
+pub first-append : (n : ℕ) (ps qs : List Piece) → firstWrong n (ps ++ qs) ≡ orLater (firstWrong n ps) (firstWrong n qs)
 first-append n [] qs = refl
-first-append n (p ∷ ps) qs = ap (orElse (wrong n p)) (first-append n ps qs) ∙ sym (orElse-assoc (wrong n p) (firstWrong n ps) (firstWrong n qs))
+first-append n (p ∷ ps) qs = ap (orLater (wrong n p)) (first-append n ps qs) ∙ sym (orLater-assoc (wrong n p) (firstWrong n ps) (firstWrong n qs))
 
 -- the first i records pass
 abbrev pub Clear : ℕ → (ℕ → Piece) → ℕ → Type 0
@@ -31,8 +31,8 @@ Clear n item i = firstWrong n (map item (counting 0 i)) ≡ None
 pub clear-more : (n : ℕ) (item : ℕ → Piece) (i : ℕ) → Clear n item i → None ≡ wrong n (item i) → Clear n item (i + 1)
 clear-more n item i before here =
     ap (firstWrong n) (map-counting-more item 0 i i (omega arith)) ∙ first-append n (map item (counting 0 i)) (item i ∷ [])
-    ∙ ap (λ o. orElse o (orElse (wrong n (item i)) None)) before
-    ∙ ap (λ o. orElse o None) (sym here)
+    ∙ ap (λ o. orLater o (orLater (wrong n (item i)) None)) before
+    ∙ ap (λ o. orLater o None) (sym here)
 
 -- the first that fails
 stops : (n : ℕ) (item : ℕ → Piece) (i m a j : ℕ) (e : Fault) → a + i ≡ j → i < m → firstWrong n (map item (counting a i)) ≡ None → wrong n (item j) ≡ Some e → firstWrong n (map item (counting a m)) ≡ Some e
@@ -40,21 +40,21 @@ stops n item zero zero a j e s h before here = absurd (omega arith)
 stops n item (suc i) zero a j e s h before here = absurd (omega arith)
 stops n item zero (suc m) a j e s h before here =
     let t : a ≡ j = omega arith in
-    ap (λ k. orElse (wrong n (item k)) (firstWrong n (map item (counting (a + 1) m)))) t ∙ ap (λ o. orElse o (firstWrong n (map item (counting (a + 1) m)))) here
+    ap (λ k. orLater (wrong n (item k)) (firstWrong n (map item (counting (a + 1) m)))) t ∙ ap (λ o. orLater o (firstWrong n (map item (counting (a + 1) m)))) here
 stops n item (suc i) (suc m) a j e s h before here =
-    let b = orElse-none (wrong n (item a)) (firstWrong n (map item (counting (a + 1) i))) before in
-    ap (λ o. orElse o (firstWrong n (map item (counting (a + 1) m)))) (b .0) ∙ stops n item i m (a + 1) j e (omega arith) (omega arith) (b .1) here
+    let b = orLater-none (wrong n (item a)) (firstWrong n (map item (counting (a + 1) i))) before in
+    ap (λ o. orLater o (firstWrong n (map item (counting (a + 1) m)))) (b .0) ∙ stops n item i m (a + 1) j e (omega arith) (omega arith) (b .1) here
 
 -- a section: its count fails, a record fails, or all pass
 pub count-fails : (n : ℕ) (head : Piece) (item : ℕ → Piece) (m : ℕ) (e : Fault) → Some e ≡ wrong n head → Some e ≡ firstWrong n (counted head item m)
-count-fails n head item m e h = ap (λ o. orElse o (firstWrong n (map item (counting 0 m)))) h
+count-fails n head item m e h = ap (λ o. orLater o (firstWrong n (map item (counting 0 m)))) h
 
 pub item-fails : (n : ℕ) (head : Piece) (item : ℕ → Piece) (i m : ℕ) (e : Fault) → None ≡ wrong n head → i < m → Clear n item i → Some e ≡ wrong n (item i) → Some e ≡ firstWrong n (counted head item m)
 item-fails n head item i m e h less before here =
-    sym (stops n item i m 0 i e (omega arith) less before (sym here)) ∙ ap (λ o. orElse o (firstWrong n (map item (counting 0 m)))) h
+    sym (stops n item i m 0 i e (omega arith) less before (sym here)) ∙ ap (λ o. orLater o (firstWrong n (map item (counting 0 m)))) h
 
 pub all-pass : (n : ℕ) (head : Piece) (item : ℕ → Piece) (m : ℕ) → None ≡ wrong n head → Clear n item m → None ≡ firstWrong n (counted head item m)
-all-pass n head item m h all = sym all ∙ ap (λ o. orElse o (firstWrong n (map item (counting 0 m)))) h
+all-pass n head item m h all = sym all ∙ ap (λ o. orLater o (firstWrong n (map item (counting 0 m)))) h
 
 -- The same for a reader of a section, where bs are the bytes at its start, ms those after its count and ks those before its record i: all one list.
 module _ (head : List ℕ → Piece) (item : List ℕ → ℕ → Piece) (count : List ℕ → ℕ) where

@@ -17,7 +17,7 @@ use Rattle.std.proofs.shelf.Tests.{le-leb}
 use Rattle.sheet.specs.Faults.{faultOf}
 use Rattle.records.specs.Tables.{movers}
 use Rattle.sheet.specs.Layout.{switches, flows, flowsFrom, endsFrom, rowFrom, tableAt, oldFrom, newFrom, neededFrom, oldTable, newTable, moversOf}
-use Rattle.sheet.specs.Pieces.{Piece, wrong, orElse, firstWrong, sectionA, sectionB, tableSection, neededSection, noMore, fewMovers, pieces, firstFault, failing, testOf}
+use Rattle.sheet.specs.Pieces.{Piece, wrong, orLater, firstWrong, sectionA, sectionB, tableSection, neededSection, noMore, fewMovers, sheetPieces, firstFault, failing, testOf}
 use Rattle.sheet.proofs.Firsts.{first-append}
 
 -- the reader's bytes xs are the sheet's, bs, and it stands at the place `to`
@@ -67,10 +67,10 @@ told-movers bs p ms o em ep inside h =
 
 -- what stands before passes, or fails
 past : (n : ℕ) (ps qs : List Piece) → None ≡ firstWrong n ps → firstWrong n (ps ++ qs) ≡ firstWrong n qs
-past n ps qs h = first-append n ps qs ∙ ap (λ o. orElse o (firstWrong n qs)) (sym h)
+past n ps qs h = first-append n ps qs ∙ ap (λ o. orLater o (firstWrong n qs)) (sym h)
 
 hit : (n : ℕ) (ps qs : List Piece) (e : Fault) → Some e ≡ firstWrong n ps → Some e ≡ firstWrong n (ps ++ qs)
-hit n ps qs e h = ap (λ o. orElse o (firstWrong n qs)) h ∙ sym (first-append n ps qs)
+hit n ps qs e h = ap (λ o. orLater o (firstWrong n qs)) h ∙ sym (first-append n ps qs)
 
 module _ (bs : List ℕ) where
   abbrev Fails : Fault → List Piece → Type 0
@@ -95,12 +95,12 @@ module _ (bs : List ℕ) where
   from-b = sectionB bs ++ from-c
 
   pub fault-a : (e : Fault) → Fails e (sectionA bs) → Some e ≡ firstFault bs
-  unfolding pieces
+  unfolding sheetPieces
   fault-a e h = hit (length bs) (sectionA bs) from-b e h
 
   module _ (a : Clears (sectionA bs)) where
     after-a : firstFault bs ≡ firstWrong (length bs) from-b
-    unfolding pieces
+    unfolding sheetPieces
     after-a = past (length bs) (sectionA bs) from-b a
 
     pub fault-b : (e : Fault) → Fails e (sectionB bs) → Some e ≡ firstFault bs
@@ -128,12 +128,12 @@ module _ (bs : List ℕ) where
           fault-e x h = hit (length bs) (neededSection bs (neededFrom bs)) last-two x h ∙ sym after-d
 
           module _ (e : Clears (neededSection bs (neededFrom bs))) where
-            after-e : firstFault bs ≡ orElse (wrong (length bs) (noMore bs)) (orElse (wrong (length bs) (fewMovers bs)) None)
+            after-e : firstFault bs ≡ orLater (wrong (length bs) (noMore bs)) (orLater (wrong (length bs) (fewMovers bs)) None)
             after-e = after-d ∙ past (length bs) (neededSection bs (neededFrom bs)) last-two e
 
             pub fault-more : (x : Fault) → Some x ≡ wrong (length bs) (noMore bs) → Some x ≡ firstFault bs
-            fault-more x h = ap (λ o. orElse o (orElse (wrong (length bs) (fewMovers bs)) None)) h ∙ sym after-e
+            fault-more x h = ap (λ o. orLater o (orLater (wrong (length bs) (fewMovers bs)) None)) h ∙ sym after-e
 
             pub fault-last : (o : Option Fault) → None ≡ wrong (length bs) (noMore bs) → o ≡ wrong (length bs) (fewMovers bs) → o ≡ firstFault bs
-            fault-last None m h = ap (λ o. orElse o None) h ∙ ap (λ o. orElse o (orElse (wrong (length bs) (fewMovers bs)) None)) m ∙ sym after-e
-            fault-last (Some x) m h = ap (λ o. orElse o None) h ∙ ap (λ o. orElse o (orElse (wrong (length bs) (fewMovers bs)) None)) m ∙ sym after-e
+            fault-last None m h = ap (λ o. orLater o None) h ∙ ap (λ o. orLater o (orLater (wrong (length bs) (fewMovers bs)) None)) m ∙ sym after-e
+            fault-last (Some x) m h = ap (λ o. orLater o None) h ∙ ap (λ o. orLater o (orLater (wrong (length bs) (fewMovers bs)) None)) m ∙ sym after-e

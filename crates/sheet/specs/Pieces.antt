@@ -9,7 +9,7 @@ use Rattle.std.specs.Iters.{counting}
 use Rattle.std.specs.shelf.Lists.{All}
 use Rattle.std.specs.declared.option.Option.{Option}
 use Rattle.std.specs.declared.option.Option.the-variants.{Some, None}
-use Rattle.records.specs.Masks.{bytesAt, maskAt, within, maskFits, linksFit}
+use Rattle.records.specs.Masks.{bytesAt, maskAt, inRange, maskFits, linksFit}
 use Rattle.records.specs.Tables.{rowSize, rowFits}
 use Rattle.sheet.specs.declared.fault.FaultKind.{FaultKind}
 use Rattle.sheet.specs.declared.fault.FaultKind.the-variants.{EndsTooSoon, SwitchCount, LinkMask, FlowCount, FlowEnds, SectionCount, Hop, NeededMask, BytesFollow, TooManyMovers}
@@ -32,9 +32,9 @@ pub record Piece : Type 0 where
   pub tests : List Test
 
 -- the first of two faults, where there is one
-abbrev pub orElse : Option Fault → Option Fault → Option Fault
-orElse None g = g
-orElse (Some e) g = Some e
+abbrev pub orLater : Option Fault → Option Fault → Option Fault
+orLater None g = g
+orLater (Some e) g = Some e
 
 -- the fault of the first test that fails
 abbrev pub failing : Section → ℕ → List Test → Option Fault
@@ -48,7 +48,7 @@ wrong n p = cond (leb (p .from + p .size) n) (failing (p .section) (p .from) (p 
 -- the fault of the first piece that fails
 abbrev pub firstWrong : ℕ → List Piece → Option Fault
 firstWrong n [] = None
-firstWrong n (p ∷ ps) = orElse (wrong n p) (firstWrong n ps)
+firstWrong n (p ∷ ps) = orLater (wrong n p) (firstWrong n ps)
 
 -- one test
 abbrev pub testOf : FaultKind → Bool → List Test
@@ -59,14 +59,14 @@ abbrev pub piece : Section → ℕ → ℕ → FaultKind → Bool → Piece
 piece s p k kind passes = record { from = p; size = k; section = s; tests = testOf kind passes }
 
 abbrev pub switchCount : List ℕ → Piece
-switchCount bs = piece A 0 1 SwitchCount (within 64 (switches bs))
+switchCount bs = piece A 0 1 SwitchCount (inRange 64 (switches bs))
 
 -- the links of switch s
 abbrev pub linkMask : List ℕ → ℕ → Piece
 linkMask bs s = piece A (linksFrom s) 8 LinkMask (linksFit (switches bs) s (links bs s))
 
 abbrev pub flowCount : List ℕ → Piece
-flowCount bs = piece B (flowsFrom bs) 1 FlowCount (within 8 (flows bs))
+flowCount bs = piece B (flowsFrom bs) 1 FlowCount (inRange 8 (flows bs))
 
 -- the pair of ingress and exit at place p
 abbrev pub flowEnds : List ℕ → ℕ → Piece
@@ -111,9 +111,9 @@ unfoldable pub neededSection : List ℕ → ℕ → List Piece
 neededSection bs p = counted (sameCount bs E p (flows bs)) (λ j. neededMask bs (maskFrom p j)) (flows bs)
 
 -- the whole sheet
-unfoldable pub pieces : List ℕ → List Piece
-pieces bs = sectionA bs ++ (sectionB bs ++ (tableSection bs C (oldFrom bs) ++ (tableSection bs D (newFrom bs) ++ (neededSection bs (neededFrom bs) ++ (noMore bs ∷ (fewMovers bs ∷ []))))))
+unfoldable pub sheetPieces : List ℕ → List Piece
+sheetPieces bs = sectionA bs ++ (sectionB bs ++ (tableSection bs C (oldFrom bs) ++ (tableSection bs D (newFrom bs) ++ (neededSection bs (neededFrom bs) ++ (noMore bs ∷ (fewMovers bs ∷ []))))))
 
 -- the first fault of a sheet, if it has one
 abbrev pub firstFault : List ℕ → Option Fault
-firstFault bs = firstWrong (length bs) (pieces bs)
+firstFault bs = firstWrong (length bs) (sheetPieces bs)

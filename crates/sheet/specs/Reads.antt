@@ -16,37 +16,37 @@ use Rattle.sheet.specs.Layout.{byteAt, switches, rowFrom, tableAt}
 use Rattle.sheet.specs.Pieces.{Piece, wrong, firstWrong}
 
 -- the bytes of the sheet that is read
-abbrev pub bytes : Reader → List ℕ
-bytes r = r .sheet .now
+abbrev pub sheetBytes : Reader → List ℕ
+sheetBytes r = r .sheet .now
 
 -- k bytes were there, and the reader stands behind them
-pub record Took (k : ℕ) (r s : Reader) : Type 0 where
-  pub inside : r .at + k ≤ length (bytes r)
+pub record Advanced (k : ℕ) (r s : Reader) : Type 0 where
+  pub inside : r .at + k ≤ length (sheetBytes r)
   pub after : s .at ≡ r .at + k
 
 -- k bytes were not there
-pub record Lacks (k : ℕ) (r : Reader) (c : Section) (e : Fault) : Type 0 where
-  pub past : length (bytes r) < r .at + k
-  pub told : e ≡ faultOf EndsTooSoon c (length (bytes r))
+pub record RunsOut (k : ℕ) (r : Reader) (c : Section) (e : Fault) : Type 0 where
+  pub past : length (sheetBytes r) < r .at + k
+  pub told : e ≡ faultOf EndsTooSoon c (length (sheetBytes r))
 
 -- one byte
 abbrev pub ByteRead : Reader → Reader → Section → Result ℕ Fault → Type 0
-ByteRead r s c (Ok b) = Took 1 r s × (b ≡ byteAt (bytes r) (r .at))
-ByteRead r s c (Err e) = Lacks 1 r c e
+ByteRead r s c (Ok b) = Advanced 1 r s × (b ≡ byteAt (sheetBytes r) (r .at))
+ByteRead r s c (Err e) = RunsOut 1 r c e
 
 -- the k bytes of a record
 abbrev pub BytesRead : ℕ → Reader → Reader → Section → Result (RefT (List ℕ)) Fault → Type 0
-BytesRead k r s c (Ok b) = Took k r s × (b .now ≡ bytesAt (bytes r) (r .at) k)
-BytesRead k r s c (Err e) = Lacks k r c e
+BytesRead k r s c (Ok b) = Advanced k r s × (b .now ≡ bytesAt (sheetBytes r) (r .at) k)
+BytesRead k r s c (Err e) = RunsOut k r c e
 
 -- a mask of eight bytes
 abbrev pub MaskRead : Reader → Reader → Section → Result ℕ Fault → Type 0
-MaskRead r s c (Ok m) = Took 8 r s × (m ≡ maskAt (bytes r) (r .at))
-MaskRead r s c (Err e) = Lacks 8 r c e
+MaskRead r s c (Ok m) = Advanced 8 r s × (m ≡ maskAt (sheetBytes r) (r .at))
+MaskRead r s c (Err e) = RunsOut 8 r c e
 
 -- the answer tells what is wrong with one piece, or the first fault of several
-abbrev pub Tells : {T : Type 0} → List ℕ → Piece → Result T Fault → Type 0
-Tells bs p r = toldBy r ≡ wrong (length bs) p
+abbrev pub ToldOf : {T : Type 0} → List ℕ → Piece → Result T Fault → Type 0
+ToldOf bs p r = toldBy r ≡ wrong (length bs) p
 
 abbrev pub TellsFirst : {T : Type 0} → List ℕ → List Piece → Result T Fault → Type 0
 TellsFirst bs ps r = toldBy r ≡ firstWrong (length bs) ps
@@ -63,5 +63,5 @@ Passing s to v (Err e) = Unit {0}
 
 -- where there was no fault, the reader stands behind the rows of the table whose section began where it stood, and has read these rows
 abbrev pub TableRead : Reader → Reader → Result (RefT (List ℕ)) Fault → Type 0
-TableRead r s (Ok x) = (s .at ≡ rowFrom (bytes r) (r .at) (switches (bytes r))) × (x .now ≡ tableAt (bytes r) (r .at))
+TableRead r s (Ok x) = (s .at ≡ rowFrom (sheetBytes r) (r .at) (switches (sheetBytes r))) × (x .now ≡ tableAt (sheetBytes r) (r .at))
 TableRead r s (Err e) = Unit {0}

@@ -12,7 +12,7 @@ use Rattle.std.proofs.shelf.Tests.{false≢true}
 use Rattle.sheet.specs.declared.fault.Fault.{Fault}
 use Rattle.sheet.specs.Faults.{toldBy}
 use Rattle.sheet.specs.Pieces.{firstFault}
-use Rattle.cases.specs.Lawful.{Lawful, FirstFails}
+use Rattle.cases.specs.Lawful.{LawfulSheet, FirstFails}
 use Rattle.cases.proofs.Lawfuls.{lawful-from-none, none-from-lawful}
 use Rattle.cases.proofs.Relations.{first-fails, fails-first}
 use Rattle.cases.proofs.read.Needs as need
@@ -21,11 +21,11 @@ not-both : (o : Option Fault) (e : Fault) → Some e ≡ o → o ≡ None → �
 not-both o e h k = let z : _≡_ {A = ℕ} 0 1 = cc in omega arith
 
 -- an answer that tells the first fault of bs
-decided : {T : Type 0} (bs : List ℕ) (r : Result T Fault) → toldBy r ≡ firstFault bs → Decides (isOk r) (Lawful bs)
+decided : {T : Type 0} (bs : List ℕ) (r : Result T Fault) → toldBy r ≡ firstFault bs → Decides (isOk r) (LawfulSheet bs)
 decided bs (Ok x) t = ((λ _. lawful-from-none bs (sym t)), (λ _. refl))
 decided bs (Err e) t = ((λ z. absurd (false≢true z)), (λ l. absurd (not-both (firstFault bs) e t (none-from-lawful bs l))))
 
-named : {T : Type 0} (bs : List ℕ) (r : Result T Fault) → toldBy r ≡ firstFault bs → Cases r (λ _. Lawful bs) (λ e. FirstFails bs e)
+named : {T : Type 0} (bs : List ℕ) (r : Result T Fault) → toldBy r ≡ firstFault bs → Cases r (λ _. LawfulSheet bs) (λ e. FirstFails bs e)
 named bs (Ok x) t = lawful-from-none bs (sym t)
 named bs (Err e) t = first-fails bs e (sym t)
 

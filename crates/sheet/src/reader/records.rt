@@ -6,7 +6,7 @@ ghost use Rattle.std.specs.Vec.{made};
 ghost use Rattle.sheet.specs.Layout.{switches, linksFrom, links as linksAt, flowsFrom, flows, endsFrom};
 ghost use Rattle.sheet.specs.Pieces.{switchCount, linkMask, flowCount, flowEnds, sameCount, switchRow, neededMask};
 ghost use Rattle.records.specs.Tables.{rowSize};
-ghost use Rattle.sheet.specs.Reads.{bytes, ByteRead, BytesRead, MaskRead, Tells, Going, Passing};
+ghost use Rattle.sheet.specs.Reads.{sheetBytes, ByteRead, BytesRead, MaskRead, ToldOf, Going, Passing};
 use crate::fault::Fault;
 use crate::fault::FaultKind;
 use crate::fault::Section;
@@ -21,7 +21,7 @@ use records::within;
 impl<'a> Reader<'a> {
     // The next byte, which belongs to the section.
     fn byte(&mut self, section: Section) -> Result<u8, Fault>
-        ensures kept { λ _. ⌜ bytes (now (self .exit)) ≡ bytes (now (self .entry)) ⌝ }
+        ensures kept { λ _. ⌜ sheetBytes (now (self .exit)) ≡ sheetBytes (now (self .entry)) ⌝ }
         ensures reads { λ r. ⌜ ByteRead (now (self .entry)) (now (self .exit)) section r ⌝ }
     {
         if self.at >= self.sheet.len() {
@@ -38,7 +38,7 @@ impl<'a> Reader<'a> {
 
     // The next bytes, which are a record of the section.
     fn record(&mut self, section: Section, size: u8) -> Result<&'a [u8], Fault>
-        ensures kept { λ _. ⌜ bytes (now (self .exit)) ≡ bytes (now (self .entry)) ⌝ }
+        ensures kept { λ _. ⌜ sheetBytes (now (self .exit)) ≡ sheetBytes (now (self .entry)) ⌝ }
         ensures reads { λ r. ⌜ BytesRead size (now (self .entry)) (now (self .exit)) section r ⌝ }
     {
         let sheet = self.sheet;
@@ -51,7 +51,7 @@ impl<'a> Reader<'a> {
 
     // A mask of eight bytes, which is a record of the section.
     fn mask(&mut self, section: Section) -> Result<u64, Fault>
-        ensures kept { λ _. ⌜ bytes (now (self .exit)) ≡ bytes (now (self .entry)) ⌝ }
+        ensures kept { λ _. ⌜ sheetBytes (now (self .exit)) ≡ sheetBytes (now (self .entry)) ⌝ }
         ensures reads { λ r. ⌜ MaskRead (now (self .entry)) (now (self .exit)) section r ⌝ }
     {
         let place = self.at;
@@ -62,9 +62,9 @@ impl<'a> Reader<'a> {
     // The number of switches.
     pub(super) fn switch_count(&mut self) -> Result<u8, Fault>
         requires { ⌜ now self .at ≡ 0 ⌝ }
-        ensures kept { λ _. ⌜ bytes (now (self .exit)) ≡ bytes (now (self .entry)) ⌝ }
-        ensures tells { λ r. ⌜ Tells (bytes (now (self .entry))) (switchCount (bytes (now (self .entry)))) r ⌝ }
-        ensures goes { λ r. ⌜ Passing (now (self .exit)) (linksFrom 0) (switches (bytes (now (self .entry)))) r ⌝ }
+        ensures kept { λ _. ⌜ sheetBytes (now (self .exit)) ≡ sheetBytes (now (self .entry)) ⌝ }
+        ensures tells { λ r. ⌜ ToldOf (sheetBytes (now (self .entry))) (switchCount (sheetBytes (now (self .entry)))) r ⌝ }
+        ensures goes { λ r. ⌜ Passing (now (self .exit)) (linksFrom 0) (switches (sheetBytes (now (self .entry)))) r ⌝ }
         ensures few { λ r. ⌜ made r (λ n. n ≤ 64) ⌝ }
     {
         let n = self.byte(Section::A)?;
@@ -74,9 +74,9 @@ impl<'a> Reader<'a> {
 
     // The links of switch s of n.
     pub(super) fn link_mask(&mut self, n: u8, s: u8) -> Result<(), Fault>
-        requires { ⌜ now self .at ≡ linksFrom s ⌝ ∗ ⌜ n ≡ switches (bytes (now self)) ⌝ }
-        ensures kept { λ _. ⌜ bytes (now (self .exit)) ≡ bytes (now (self .entry)) ⌝ }
-        ensures tells { λ r. ⌜ Tells (bytes (now (self .entry))) (linkMask (bytes (now (self .entry))) s) r ⌝ }
+        requires { ⌜ now self .at ≡ linksFrom s ⌝ ∗ ⌜ n ≡ switches (sheetBytes (now self)) ⌝ }
+        ensures kept { λ _. ⌜ sheetBytes (now (self .exit)) ≡ sheetBytes (now (self .entry)) ⌝ }
+        ensures tells { λ r. ⌜ ToldOf (sheetBytes (now (self .entry))) (linkMask (sheetBytes (now (self .entry))) s) r ⌝ }
         ensures goes { λ r. ⌜ Going (now (self .exit)) (linksFrom (s + 1)) r ⌝ }
     {
         let place = self.at;
@@ -91,10 +91,10 @@ impl<'a> Reader<'a> {
 
     // The number of flows.
     pub(super) fn flow_count(&mut self) -> Result<u8, Fault>
-        requires { ⌜ now self .at ≡ flowsFrom (bytes (now self)) ⌝ }
-        ensures kept { λ _. ⌜ bytes (now (self .exit)) ≡ bytes (now (self .entry)) ⌝ }
-        ensures tells { λ r. ⌜ Tells (bytes (now (self .entry))) (flowCount (bytes (now (self .entry)))) r ⌝ }
-        ensures goes { λ r. ⌜ Passing (now (self .exit)) (endsFrom (bytes (now (self .entry))) 0) (flows (bytes (now (self .entry)))) r ⌝ }
+        requires { ⌜ now self .at ≡ flowsFrom (sheetBytes (now self)) ⌝ }
+        ensures kept { λ _. ⌜ sheetBytes (now (self .exit)) ≡ sheetBytes (now (self .entry)) ⌝ }
+        ensures tells { λ r. ⌜ ToldOf (sheetBytes (now (self .entry))) (flowCount (sheetBytes (now (self .entry)))) r ⌝ }
+        ensures goes { λ r. ⌜ Passing (now (self .exit)) (endsFrom (sheetBytes (now (self .entry))) 0) (flows (sheetBytes (now (self .entry)))) r ⌝ }
     {
         let place = self.at;
         let f = self.byte(Section::B)?;
@@ -104,9 +104,9 @@ impl<'a> Reader<'a> {
 
     // The ingress and the exit of a flow, among n switches.
     pub(super) fn flow_ends(&mut self, n: u8) -> Result<(), Fault>
-        requires { ⌜ n ≡ switches (bytes (now self)) ⌝ }
-        ensures kept { λ _. ⌜ bytes (now (self .exit)) ≡ bytes (now (self .entry)) ⌝ }
-        ensures tells { λ r. ⌜ Tells (bytes (now (self .entry))) (flowEnds (bytes (now (self .entry))) (now (self .entry) .at)) r ⌝ }
+        requires { ⌜ n ≡ switches (sheetBytes (now self)) ⌝ }
+        ensures kept { λ _. ⌜ sheetBytes (now (self .exit)) ≡ sheetBytes (now (self .entry)) ⌝ }
+        ensures tells { λ r. ⌜ ToldOf (sheetBytes (now (self .entry))) (flowEnds (sheetBytes (now (self .entry))) (now (self .entry) .at)) r ⌝ }
         ensures goes { λ r. ⌜ Going (now (self .exit)) (now (self .entry) .at + 2) r ⌝ }
     {
         let place = self.at;
@@ -122,8 +122,8 @@ impl<'a> Reader<'a> {
 
     // The count of a section that is to have so many records.
     pub(super) fn same_count(&mut self, section: Section, expected: u8) -> Result<(), Fault>
-        ensures kept { λ _. ⌜ bytes (now (self .exit)) ≡ bytes (now (self .entry)) ⌝ }
-        ensures tells { λ r. ⌜ Tells (bytes (now (self .entry))) (sameCount (bytes (now (self .entry))) section (now (self .entry) .at) expected) r ⌝ }
+        ensures kept { λ _. ⌜ sheetBytes (now (self .exit)) ≡ sheetBytes (now (self .entry)) ⌝ }
+        ensures tells { λ r. ⌜ ToldOf (sheetBytes (now (self .entry))) (sameCount (sheetBytes (now (self .entry))) section (now (self .entry) .at) expected) r ⌝ }
         ensures goes { λ r. ⌜ Going (now (self .exit)) (now (self .entry) .at + 1) r ⌝ }
     {
         let place = self.at;
@@ -133,17 +133,17 @@ impl<'a> Reader<'a> {
 
     // The links of switch s, which were read before.
     fn links_of(&self, s: u8) -> u64
-        requires { ⌜ linksFrom s + 8 ≤ length (bytes (now self)) ⌝ }
-        ensures { λ r. ⌜ r ≡ linksAt (bytes (now (self .entry))) s ⌝ }
+        requires { ⌜ linksFrom s + 8 ≤ length (sheetBytes (now self)) ⌝ }
+        ensures { λ r. ⌜ r ≡ linksAt (sheetBytes (now (self .entry))) s ⌝ }
     {
         mask_at(self.sheet, 1 + 8 * s as usize).unwrap_or(0)
     }
 
     // The row of switch s, a hop for each of f flows.
     pub(super) fn switch_row(&mut self, section: Section, f: u8, s: u8) -> Result<(), Fault>
-        requires { ⌜ f ≡ flows (bytes (now self)) ⌝ ∗ ⌜ linksFrom s + 8 ≤ length (bytes (now self)) ⌝ }
-        ensures kept { λ _. ⌜ bytes (now (self .exit)) ≡ bytes (now (self .entry)) ⌝ }
-        ensures tells { λ r. ⌜ Tells (bytes (now (self .entry))) (switchRow (bytes (now (self .entry))) section (now (self .entry) .at) s) r ⌝ }
+        requires { ⌜ f ≡ flows (sheetBytes (now self)) ⌝ ∗ ⌜ linksFrom s + 8 ≤ length (sheetBytes (now self)) ⌝ }
+        ensures kept { λ _. ⌜ sheetBytes (now (self .exit)) ≡ sheetBytes (now (self .entry)) ⌝ }
+        ensures tells { λ r. ⌜ ToldOf (sheetBytes (now (self .entry))) (switchRow (sheetBytes (now (self .entry))) section (now (self .entry) .at) s) r ⌝ }
         ensures goes { λ r. ⌜ Going (now (self .exit)) (now (self .entry) .at + rowSize f) r ⌝ }
     {
         let place = self.at;
@@ -154,9 +154,9 @@ impl<'a> Reader<'a> {
 
     // The needed switches of a flow, among n switches.
     pub(super) fn needed_mask(&mut self, n: u8) -> Result<(), Fault>
-        requires { ⌜ n ≡ switches (bytes (now self)) ⌝ }
-        ensures kept { λ _. ⌜ bytes (now (self .exit)) ≡ bytes (now (self .entry)) ⌝ }
-        ensures tells { λ r. ⌜ Tells (bytes (now (self .entry))) (neededMask (bytes (now (self .entry))) (now (self .entry) .at)) r ⌝ }
+        requires { ⌜ n ≡ switches (sheetBytes (now self)) ⌝ }
+        ensures kept { λ _. ⌜ sheetBytes (now (self .exit)) ≡ sheetBytes (now (self .entry)) ⌝ }
+        ensures tells { λ r. ⌜ ToldOf (sheetBytes (now (self .entry))) (neededMask (sheetBytes (now (self .entry))) (now (self .entry) .at)) r ⌝ }
         ensures goes { λ r. ⌜ Going (now (self .exit)) (now (self .entry) .at + 8) r ⌝ }
     {
         let place = self.at;

@@ -5,7 +5,7 @@ ghost use lib.ListN.{length};
 ghost use Rattle.std.specs.Vec.{made};
 ghost use Rattle.sheet.specs.Layout.{switches, linksFrom, flowsFrom, flows, endsFrom, maskFrom, sheetEnd};
 ghost use Rattle.sheet.specs.Pieces.{sectionA, sectionB, tableSection, neededSection, noMore};
-ghost use Rattle.sheet.specs.Reads.{bytes, Tells, TellsFirst, Going, Passing, TableRead};
+ghost use Rattle.sheet.specs.Reads.{sheetBytes, ToldOf, TellsFirst, Going, Passing, TableRead};
 use crate::fault::Fault;
 use crate::fault::FaultKind;
 use crate::fault::Section;
@@ -16,9 +16,9 @@ impl<'a> Reader<'a> {
     // Section A: the number of switches, and the links of each.
     pub(super) fn section_a(&mut self) -> Result<u8, Fault>
         requires { ⌜ now self .at ≡ 0 ⌝ }
-        ensures kept { λ _. ⌜ bytes (now (self .exit)) ≡ bytes (now (self .entry)) ⌝ }
-        ensures tells { λ r. ⌜ TellsFirst (bytes (now (self .entry))) (sectionA (bytes (now (self .entry)))) r ⌝ }
-        ensures goes { λ r. ⌜ Passing (now (self .exit)) (flowsFrom (bytes (now (self .entry)))) (switches (bytes (now (self .entry)))) r ⌝ }
+        ensures kept { λ _. ⌜ sheetBytes (now (self .exit)) ≡ sheetBytes (now (self .entry)) ⌝ }
+        ensures tells { λ r. ⌜ TellsFirst (sheetBytes (now (self .entry))) (sectionA (sheetBytes (now (self .entry)))) r ⌝ }
+        ensures goes { λ r. ⌜ Passing (now (self .exit)) (flowsFrom (sheetBytes (now (self .entry)))) (switches (sheetBytes (now (self .entry)))) r ⌝ }
         ensures few { λ r. ⌜ made r (λ n. n ≤ 64) ⌝ }
     {
         let n = self.switch_count()?;
@@ -30,10 +30,10 @@ impl<'a> Reader<'a> {
 
     // Section B: the number of flows, and the ends of each.
     pub(super) fn section_b(&mut self, n: u8) -> Result<u8, Fault>
-        requires { ⌜ now self .at ≡ flowsFrom (bytes (now self)) ⌝ ∗ ⌜ n ≡ switches (bytes (now self)) ⌝ }
-        ensures kept { λ _. ⌜ bytes (now (self .exit)) ≡ bytes (now (self .entry)) ⌝ }
-        ensures tells { λ r. ⌜ TellsFirst (bytes (now (self .entry))) (sectionB (bytes (now (self .entry)))) r ⌝ }
-        ensures goes { λ r. ⌜ Passing (now (self .exit)) (endsFrom (bytes (now (self .entry))) (flows (bytes (now (self .entry))))) (flows (bytes (now (self .entry)))) r ⌝ }
+        requires { ⌜ now self .at ≡ flowsFrom (sheetBytes (now self)) ⌝ ∗ ⌜ n ≡ switches (sheetBytes (now self)) ⌝ }
+        ensures kept { λ _. ⌜ sheetBytes (now (self .exit)) ≡ sheetBytes (now (self .entry)) ⌝ }
+        ensures tells { λ r. ⌜ TellsFirst (sheetBytes (now (self .entry))) (sectionB (sheetBytes (now (self .entry)))) r ⌝ }
+        ensures goes { λ r. ⌜ Passing (now (self .exit)) (endsFrom (sheetBytes (now (self .entry))) (flows (sheetBytes (now (self .entry))))) (flows (sheetBytes (now (self .entry)))) r ⌝ }
     {
         let f = self.flow_count()?;
         for _ in 0..f {
@@ -44,10 +44,10 @@ impl<'a> Reader<'a> {
 
     // Section C or D: the row of each switch. Gives the rows.
     pub(super) fn table(&mut self, section: Section, n: u8, f: u8) -> Result<&'a [u8], Fault>
-        requires counts { ⌜ n ≡ switches (bytes (now self)) ⌝ ∗ ⌜ f ≡ flows (bytes (now self)) ⌝ }
-        requires behind { ⌜ flowsFrom (bytes (now self)) ≤ now self .at ⌝ }
-        ensures kept { λ _. ⌜ bytes (now (self .exit)) ≡ bytes (now (self .entry)) ⌝ }
-        ensures tells { λ r. ⌜ TellsFirst (bytes (now (self .entry))) (tableSection (bytes (now (self .entry))) section (now (self .entry) .at)) r ⌝ }
+        requires counts { ⌜ n ≡ switches (sheetBytes (now self)) ⌝ ∗ ⌜ f ≡ flows (sheetBytes (now self)) ⌝ }
+        requires behind { ⌜ flowsFrom (sheetBytes (now self)) ≤ now self .at ⌝ }
+        ensures kept { λ _. ⌜ sheetBytes (now (self .exit)) ≡ sheetBytes (now (self .entry)) ⌝ }
+        ensures tells { λ r. ⌜ TellsFirst (sheetBytes (now (self .entry))) (tableSection (sheetBytes (now (self .entry))) section (now (self .entry) .at)) r ⌝ }
         ensures goes { λ r. ⌜ TableRead (now (self .entry)) (now (self .exit)) r ⌝ }
     {
         let sheet = self.sheet;
@@ -61,9 +61,9 @@ impl<'a> Reader<'a> {
 
     // Section E: the needed switches of each flow.
     pub(super) fn needed(&mut self, n: u8, f: u8) -> Result<(), Fault>
-        requires counts { ⌜ n ≡ switches (bytes (now self)) ⌝ ∗ ⌜ f ≡ flows (bytes (now self)) ⌝ }
-        ensures kept { λ _. ⌜ bytes (now (self .exit)) ≡ bytes (now (self .entry)) ⌝ }
-        ensures tells { λ r. ⌜ TellsFirst (bytes (now (self .entry))) (neededSection (bytes (now (self .entry))) (now (self .entry) .at)) r ⌝ }
+        requires counts { ⌜ n ≡ switches (sheetBytes (now self)) ⌝ ∗ ⌜ f ≡ flows (sheetBytes (now self)) ⌝ }
+        ensures kept { λ _. ⌜ sheetBytes (now (self .exit)) ≡ sheetBytes (now (self .entry)) ⌝ }
+        ensures tells { λ r. ⌜ TellsFirst (sheetBytes (now (self .entry))) (neededSection (sheetBytes (now (self .entry))) (now (self .entry) .at)) r ⌝ }
         ensures goes { λ r. ⌜ Going (now (self .exit)) (maskFrom (now (self .entry) .at) f) r ⌝ }
     {
         self.same_count(Section::E, f)?;
@@ -75,8 +75,8 @@ impl<'a> Reader<'a> {
 
     // No byte follows section E.
     pub(super) fn no_more(&self) -> Result<(), Fault>
-        requires { ⌜ now self .at ≡ sheetEnd (bytes (now self)) ⌝ }
-        ensures { λ r. ⌜ Tells (bytes (now (self .entry))) (noMore (bytes (now (self .entry)))) r ⌝ }
+        requires { ⌜ now self .at ≡ sheetEnd (sheetBytes (now self)) ⌝ }
+        ensures { λ r. ⌜ ToldOf (sheetBytes (now (self .entry))) (noMore (sheetBytes (now (self .entry)))) r ⌝ }
     {
         tested(
             self.sheet.len() <= self.at,

@@ -7,7 +7,7 @@ use lib.ListN.{length}
 use Rattle.std.specs.Options.{Cases}
 use Rattle.std.specs.declared.option.Option.the-variants.{Some, None}
 use Rattle.std.proofs.shelf.Tests.{le-leb}
-use Rattle.sets.specs.Sets.{AllBelow}
+use Rattle.sets.specs.Sets.{MembersBelow}
 use Rattle.records.specs.Masks.{maskAt}
 use Rattle.sheet.specs.Layout.{switches, flows, maskFrom, neededFrom, neededOf}
 use Rattle.cases.proofs.Laws.{lawful-of, needed-inside, of-flow}
@@ -24,5 +24,5 @@ returns-then-j-self c =
     c .mask-at .ensures ∙ ap (λ b. cond b (Some (maskAt bs place)) None) (le-leb (place + 8) (length bs) (omega (arith, at, inside))) ∙ ap (λ p. Some (maskAt bs p)) at in
     record {
       value = e ∙ of-flow (v .flows) (flows bs) (c .args .j) (neededOf bs (c .args .j)) (neededOf bs (c .args .j)) (v .flowing) (omega arith) refl;
-      inside = subst (λ o. Cases o (Unit {0}) (AllBelow (switches bs))) (sym e) (λ t h. lawful-of bs (v .lawful) .needs (c .args .j) t (omega (arith, v .flowing)) h);
+      inside = subst (λ o. Cases o (Unit {0}) (MembersBelow (switches bs))) (sym e) (λ t h. lawful-of bs (v .lawful) .needs (c .args .j) t (omega (arith, v .flowing)) h);
     }

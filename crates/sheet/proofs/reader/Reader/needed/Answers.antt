@@ -8,7 +8,7 @@ use Rattle.std.proofs.shelf.Results.{err-from-errBy}
 use Rattle.sheet.specs.declared.fault.Section.the-variants.{E}
 use Rattle.sheet.specs.Layout.{flows}
 use Rattle.sheet.specs.Pieces.{Piece, neededSection, sameCount, neededMask, wrong, firstWrong, counted}
-use Rattle.sheet.specs.Reads.{bytes}
+use Rattle.sheet.specs.Reads.{sheetBytes}
 use Rattle.sheet.proofs.Firsts.{section-count, section-item, section-more, section-pass}
 use Rattle.sheet.proofs.reader.Reader.needed.Needs as need
 
@@ -22,7 +22,7 @@ masks q bs j = neededMask bs (q + 8 * j)
 pub returns-in-Break-same-count : need.returns-in-Break-same-count
 unfolding neededSection
 returns-in-Break-same-count c =
-    let bs = bytes (c .args .self .now) in
+    let bs = sheetBytes (c .args .self .now) in
     let e = c .in-Break-same-count .field-0 .0 in
     let t = c .in-Break-same-count .ensures tt in
     let p = err-from-errBy (c .from-residual .result) (c .from-residual .ensures .1) in
@@ -32,8 +32,8 @@ returns-in-Break-same-count c =
 pub returns-in-Break-needed-mask : need.returns-in-Break-needed-mask
 unfolding neededSection
 returns-in-Break-needed-mask c =
-    let bs = bytes (c .args .self .now) in
-    let ks = bytes (c .loop .self) in
+    let bs = sheetBytes (c .args .self .now) in
+    let ks = sheetBytes (c .loop .self) in
     let e = c .in-Break-needed-mask .field-0 .0 in
     let at = c .args .self .now .at in
     let t = c .in-Break-needed-mask .ensures tt in
@@ -43,7 +43,7 @@ returns-in-Break-needed-mask c =
     let h = subst (λ k. None ≡ wrong (length bs) (sameCount bs E at k)) (c .pre .counts .1) (m .tells) in
     let less : c .loop .counter < flows bs = omega (arith, c .pre .counts .1) in
     let here = subst (λ x. Some e ≡ wrong (length ks) (neededMask ks x)) (i .1) (t .tells) in
-    let first = section-item (head at) (masks (c .same-count .last .self .at)) flows bs (bytes (c .same-count .last .self)) ks (c .loop .counter) e (m .kept) (i .0) h less (i .2) here in
+    let first = section-item (head at) (masks (c .same-count .last .self .at)) flows bs (sheetBytes (c .same-count .last .self)) ks (c .loop .counter) e (m .kept) (i .0) h less (i .2) here in
     rw (p .1, p .2) record {
       kept = t .kept ∙ i .0 ∙ m .kept;
       tells = subst (λ x. Some e ≡ firstWrong (length bs) (counted (head at bs) (masks x bs) (flows bs))) (m .goes) first;
@@ -52,25 +52,25 @@ returns-in-Break-needed-mask c =
 
 pub loop-again : need.loop-again
 loop-again c =
-    let ks = bytes (c .loop .self) in
+    let ks = sheetBytes (c .loop .self) in
     let t = c .in-Continue-needed-mask .ensures tt in
     let i = c .loop .inv in
     let here = subst (λ x. None ≡ wrong (length ks) (neededMask ks x)) (i .1) (t .tells) in (
       t .kept ∙ i .0,
       omega (arith, t .goes, i .1),
-      section-more (head 0) (masks (c .same-count .last .self .at)) flows (bytes (c .same-count .last .self)) ks (c .loop .counter) (i .0) (i .2) here,
+      section-more (head 0) (masks (c .same-count .last .self .at)) flows (sheetBytes (c .same-count .last .self)) ks (c .loop .counter) (i .0) (i .2) here,
     )
 
 pub returns : need.returns
 unfolding neededSection
 returns c =
-    let bs = bytes (c .args .self .now) in
+    let bs = sheetBytes (c .args .self .now) in
     let at = c .args .self .now .at in
     let m = c .in-Continue-same-count .ensures tt in
     let i = c .loop .inv in
     let h = subst (λ k. None ≡ wrong (length bs) (sameCount bs E at k)) (c .pre .counts .1) (m .tells) in
     let end : c .loop .counter ≡ flows bs = omega (arith, c .pre .counts .1) in
-    let all = section-pass (head at) (masks (c .same-count .last .self .at)) flows bs (bytes (c .same-count .last .self)) (c .loop .counter) (m .kept) end h (i .2) in
+    let all = section-pass (head at) (masks (c .same-count .last .self .at)) flows bs (sheetBytes (c .same-count .last .self)) (c .loop .counter) (m .kept) end h (i .2) in
     record {
       kept = i .0 ∙ m .kept;
       tells = subst (λ x. None ≡ firstWrong (length bs) (counted (head at bs) (masks x bs) (flows bs))) (m .goes) all;

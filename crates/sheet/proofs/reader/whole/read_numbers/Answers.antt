@@ -7,7 +7,7 @@ use Rattle.std.proofs.shelf.Results.{err-from-errBy}
 use Rattle.sheet.specs.declared.fault.Section.the-variants.{C, D}
 use Rattle.sheet.specs.Layout.{switches, flows, flowsFrom, oldFrom, newFrom, neededFrom}
 use Rattle.sheet.specs.Pieces.{firstFault, wrong, noMore, fewMovers}
-use Rattle.sheet.specs.Reads.{bytes}
+use Rattle.sheet.specs.Reads.{sheetBytes}
 use Rattle.sheet.proofs.Wholes.{Went, went-b, went-table, told-b, told-table, told-needed, told-movers, same-movers, table-of, table-whole, fault-a, fault-b, fault-c, fault-d, fault-e, fault-more, fault-last}
 use Rattle.sheet.proofs.reader.whole.read_numbers.Needs as need
 
@@ -22,7 +22,7 @@ returns-in-Break-f c =
     let bs = c .args .sheet .now in
     let a = c .in-Continue-n .ensures tt in
     let t = c .in-Break-f .ensures tt in
-    let wa : Went bs (bytes (c .section-a .last .self)) (c .section-a .last .self .at) (flowsFrom bs) = record { same = a .kept; place = a .goes .0 } in
+    let wa : Went bs (sheetBytes (c .section-a .last .self)) (c .section-a .last .self .at) (flowsFrom bs) = record { same = a .kept; place = a .goes .0 } in
     let p = err-from-errBy (c .from-residual-in-Break-f .result) (c .from-residual-in-Break-f .ensures .1) in
     let e = c .in-Break-f .field-0 .0 in
     rw (p .1, p .2) record { tells = fault-b bs (a .tells) e (told-b (Some e) wa (t .tells)); counts = tt; moving = tt }
@@ -31,9 +31,9 @@ pub returns-in-Break-old : need.returns-in-Break-old
 returns-in-Break-old c =
     let bs = c .args .sheet .now in
     let a = c .in-Continue-n .ensures tt in
-    let wa : Went bs (bytes (c .section-a .last .self)) (c .section-a .last .self .at) (flowsFrom bs) = record { same = a .kept; place = a .goes .0 } in
+    let wa : Went bs (sheetBytes (c .section-a .last .self)) (c .section-a .last .self .at) (flowsFrom bs) = record { same = a .kept; place = a .goes .0 } in
     let b = c .in-Continue-f .ensures tt in
-    let wb : Went bs (bytes (c .section-b .last .self)) (c .section-b .last .self .at) (oldFrom bs) = went-b wa (b .kept) (b .goes .0) in
+    let wb : Went bs (sheetBytes (c .section-b .last .self)) (c .section-b .last .self .at) (oldFrom bs) = went-b wa (b .kept) (b .goes .0) in
     let t = c .in-Break-old .ensures tt in
     let p = err-from-errBy (c .from-residual-in-Break-old .result) (c .from-residual-in-Break-old .ensures .1) in
     let x = c .in-Break-old .field-0 .0 in
@@ -43,11 +43,11 @@ pub returns-in-Break-new : need.returns-in-Break-new
 returns-in-Break-new c =
     let bs = c .args .sheet .now in
     let a = c .in-Continue-n .ensures tt in
-    let wa : Went bs (bytes (c .section-a .last .self)) (c .section-a .last .self .at) (flowsFrom bs) = record { same = a .kept; place = a .goes .0 } in
+    let wa : Went bs (sheetBytes (c .section-a .last .self)) (c .section-a .last .self .at) (flowsFrom bs) = record { same = a .kept; place = a .goes .0 } in
     let b = c .in-Continue-f .ensures tt in
-    let wb : Went bs (bytes (c .section-b .last .self)) (c .section-b .last .self .at) (oldFrom bs) = went-b wa (b .kept) (b .goes .0) in
+    let wb : Went bs (sheetBytes (c .section-b .last .self)) (c .section-b .last .self .at) (oldFrom bs) = went-b wa (b .kept) (b .goes .0) in
     let o = c .in-Continue-old .ensures tt in
-    let wc : Went bs (bytes (c .table .last .self)) (c .table .last .self .at) (newFrom bs) = went-table wb (o .kept) (o .goes .0) in
+    let wc : Went bs (sheetBytes (c .table .last .self)) (c .table .last .self .at) (newFrom bs) = went-table wb (o .kept) (o .goes .0) in
     let t = c .in-Break-new .ensures tt in
     let p = err-from-errBy (c .from-residual-in-Break-new .result) (c .from-residual-in-Break-new .ensures .1) in
     let x = c .in-Break-new .field-0 .0 in
@@ -57,13 +57,13 @@ pub returns-in-Break-needed : need.returns-in-Break-needed
 returns-in-Break-needed c =
     let bs = c .args .sheet .now in
     let a = c .in-Continue-n .ensures tt in
-    let wa : Went bs (bytes (c .section-a .last .self)) (c .section-a .last .self .at) (flowsFrom bs) = record { same = a .kept; place = a .goes .0 } in
+    let wa : Went bs (sheetBytes (c .section-a .last .self)) (c .section-a .last .self .at) (flowsFrom bs) = record { same = a .kept; place = a .goes .0 } in
     let b = c .in-Continue-f .ensures tt in
-    let wb : Went bs (bytes (c .section-b .last .self)) (c .section-b .last .self .at) (oldFrom bs) = went-b wa (b .kept) (b .goes .0) in
+    let wb : Went bs (sheetBytes (c .section-b .last .self)) (c .section-b .last .self .at) (oldFrom bs) = went-b wa (b .kept) (b .goes .0) in
     let o = c .in-Continue-old .ensures tt in
-    let wc : Went bs (bytes (c .table .last .self)) (c .table .last .self .at) (newFrom bs) = went-table wb (o .kept) (o .goes .0) in
+    let wc : Went bs (sheetBytes (c .table .last .self)) (c .table .last .self .at) (newFrom bs) = went-table wb (o .kept) (o .goes .0) in
     let d = c .in-Continue-new .ensures tt in
-    let wd : Went bs (bytes (c .table-2 .last .self)) (c .table-2 .last .self .at) (neededFrom bs) = went-table wc (d .kept) (d .goes .0) in
+    let wd : Went bs (sheetBytes (c .table-2 .last .self)) (c .table-2 .last .self .at) (neededFrom bs) = went-table wc (d .kept) (d .goes .0) in
     let t = c .in-Break-needed .ensures tt in
     let p = err-from-errBy (c .from-residual-in-Break-needed .result) (c .from-residual-in-Break-needed .ensures .1) in
     let x = c .in-Break-needed .field-0 .0 in
@@ -73,13 +73,13 @@ pub returns-in-Break-no-more : need.returns-in-Break-no-more
 returns-in-Break-no-more c =
     let bs = c .args .sheet .now in
     let a = c .in-Continue-n .ensures tt in
-    let wa : Went bs (bytes (c .section-a .last .self)) (c .section-a .last .self .at) (flowsFrom bs) = record { same = a .kept; place = a .goes .0 } in
+    let wa : Went bs (sheetBytes (c .section-a .last .self)) (c .section-a .last .self .at) (flowsFrom bs) = record { same = a .kept; place = a .goes .0 } in
     let b = c .in-Continue-f .ensures tt in
-    let wb : Went bs (bytes (c .section-b .last .self)) (c .section-b .last .self .at) (oldFrom bs) = went-b wa (b .kept) (b .goes .0) in
+    let wb : Went bs (sheetBytes (c .section-b .last .self)) (c .section-b .last .self .at) (oldFrom bs) = went-b wa (b .kept) (b .goes .0) in
     let o = c .in-Continue-old .ensures tt in
-    let wc : Went bs (bytes (c .table .last .self)) (c .table .last .self .at) (newFrom bs) = went-table wb (o .kept) (o .goes .0) in
+    let wc : Went bs (sheetBytes (c .table .last .self)) (c .table .last .self .at) (newFrom bs) = went-table wb (o .kept) (o .goes .0) in
     let d = c .in-Continue-new .ensures tt in
-    let wd : Went bs (bytes (c .table-2 .last .self)) (c .table-2 .last .self .at) (neededFrom bs) = went-table wc (d .kept) (d .goes .0) in
+    let wd : Went bs (sheetBytes (c .table-2 .last .self)) (c .table-2 .last .self .at) (neededFrom bs) = went-table wc (d .kept) (d .goes .0) in
     let n = c .in-Continue-needed .ensures tt in
     let t = c .in-Break-no-more .ensures tt in
     let p = err-from-errBy (c .from-residual-in-Break-no-more .result) (c .from-residual-in-Break-no-more .ensures .1) in
@@ -90,31 +90,31 @@ pub few-movers-requires : need.few-movers-requires
 few-movers-requires c κs =
     let bs = c .args .sheet .now in
     let a = c .in-Continue-n .ensures tt in
-    let wa : Went bs (bytes (c .section-a .last .self)) (c .section-a .last .self .at) (flowsFrom bs) = record { same = a .kept; place = a .goes .0 } in
+    let wa : Went bs (sheetBytes (c .section-a .last .self)) (c .section-a .last .self .at) (flowsFrom bs) = record { same = a .kept; place = a .goes .0 } in
     let b = c .in-Continue-f .ensures tt in
-    let wb : Went bs (bytes (c .section-b .last .self)) (c .section-b .last .self .at) (oldFrom bs) = went-b wa (b .kept) (b .goes .0) in
+    let wb : Went bs (sheetBytes (c .section-b .last .self)) (c .section-b .last .self .at) (oldFrom bs) = went-b wa (b .kept) (b .goes .0) in
     let o = c .in-Continue-old .ensures tt in
-    let wc : Went bs (bytes (c .table .last .self)) (c .table .last .self .at) (newFrom bs) = went-table wb (o .kept) (o .goes .0) in
+    let wc : Went bs (sheetBytes (c .table .last .self)) (c .table .last .self .at) (newFrom bs) = went-table wb (o .kept) (o .goes .0) in
     let d = c .in-Continue-new .ensures tt in
-    let wd : Went bs (bytes (c .table-2 .last .self)) (c .table-2 .last .self .at) (neededFrom bs) = went-table wc (d .kept) (d .goes .0) in
+    let wd : Went bs (sheetBytes (c .table-2 .last .self)) (c .table-2 .last .self .at) (neededFrom bs) = went-table wc (d .kept) (d .goes .0) in
     let ef : c .in-Continue-f .f ≡ flows bs = b .goes .1 ∙ ap flows (wa .same) in
     record {
       few = a .few;
-      in-old = table-whole bs (c .in-Continue-old .old .now) (bytes (c .table .last .self)) (oldFrom bs) (c .table .last .self .at) (c .in-Continue-n .n) (c .in-Continue-f .f) (table-of wb (o .goes .1)) wc (c .table .last .self .inside) (a .goes .1) ef;
-      in-new = table-whole bs (c .in-Continue-new .new .now) (bytes (c .table-2 .last .self)) (newFrom bs) (c .table-2 .last .self .at) (c .in-Continue-n .n) (c .in-Continue-f .f) (table-of wc (d .goes .1)) wd (c .table-2 .last .self .inside) (a .goes .1) ef;
+      in-old = table-whole bs (c .in-Continue-old .old .now) (sheetBytes (c .table .last .self)) (oldFrom bs) (c .table .last .self .at) (c .in-Continue-n .n) (c .in-Continue-f .f) (table-of wb (o .goes .1)) wc (c .table .last .self .inside) (a .goes .1) ef;
+      in-new = table-whole bs (c .in-Continue-new .new .now) (sheetBytes (c .table-2 .last .self)) (newFrom bs) (c .table-2 .last .self .at) (c .in-Continue-n .n) (c .in-Continue-f .f) (table-of wc (d .goes .1)) wd (c .table-2 .last .self .inside) (a .goes .1) ef;
     }
 
 pub returns-in-Break-movers : need.returns-in-Break-movers
 returns-in-Break-movers c =
     let bs = c .args .sheet .now in
     let a = c .in-Continue-n .ensures tt in
-    let wa : Went bs (bytes (c .section-a .last .self)) (c .section-a .last .self .at) (flowsFrom bs) = record { same = a .kept; place = a .goes .0 } in
+    let wa : Went bs (sheetBytes (c .section-a .last .self)) (c .section-a .last .self .at) (flowsFrom bs) = record { same = a .kept; place = a .goes .0 } in
     let b = c .in-Continue-f .ensures tt in
-    let wb : Went bs (bytes (c .section-b .last .self)) (c .section-b .last .self .at) (oldFrom bs) = went-b wa (b .kept) (b .goes .0) in
+    let wb : Went bs (sheetBytes (c .section-b .last .self)) (c .section-b .last .self .at) (oldFrom bs) = went-b wa (b .kept) (b .goes .0) in
     let o = c .in-Continue-old .ensures tt in
-    let wc : Went bs (bytes (c .table .last .self)) (c .table .last .self .at) (newFrom bs) = went-table wb (o .kept) (o .goes .0) in
+    let wc : Went bs (sheetBytes (c .table .last .self)) (c .table .last .self .at) (newFrom bs) = went-table wb (o .kept) (o .goes .0) in
     let d = c .in-Continue-new .ensures tt in
-    let wd : Went bs (bytes (c .table-2 .last .self)) (c .table-2 .last .self .at) (neededFrom bs) = went-table wc (d .kept) (d .goes .0) in
+    let wd : Went bs (sheetBytes (c .table-2 .last .self)) (c .table-2 .last .self .at) (neededFrom bs) = went-table wc (d .kept) (d .goes .0) in
     let n = c .in-Continue-needed .ensures tt in
     let ef : c .in-Continue-f .f ≡ flows bs = b .goes .1 ∙ ap flows (wa .same) in
     let old = table-of wb (o .goes .1) in
@@ -131,13 +131,13 @@ pub returns : need.returns
 returns c =
     let bs = c .args .sheet .now in
     let a = c .in-Continue-n .ensures tt in
-    let wa : Went bs (bytes (c .section-a .last .self)) (c .section-a .last .self .at) (flowsFrom bs) = record { same = a .kept; place = a .goes .0 } in
+    let wa : Went bs (sheetBytes (c .section-a .last .self)) (c .section-a .last .self .at) (flowsFrom bs) = record { same = a .kept; place = a .goes .0 } in
     let b = c .in-Continue-f .ensures tt in
-    let wb : Went bs (bytes (c .section-b .last .self)) (c .section-b .last .self .at) (oldFrom bs) = went-b wa (b .kept) (b .goes .0) in
+    let wb : Went bs (sheetBytes (c .section-b .last .self)) (c .section-b .last .self .at) (oldFrom bs) = went-b wa (b .kept) (b .goes .0) in
     let o = c .in-Continue-old .ensures tt in
-    let wc : Went bs (bytes (c .table .last .self)) (c .table .last .self .at) (newFrom bs) = went-table wb (o .kept) (o .goes .0) in
+    let wc : Went bs (sheetBytes (c .table .last .self)) (c .table .last .self .at) (newFrom bs) = went-table wb (o .kept) (o .goes .0) in
     let d = c .in-Continue-new .ensures tt in
-    let wd : Went bs (bytes (c .table-2 .last .self)) (c .table-2 .last .self .at) (neededFrom bs) = went-table wc (d .kept) (d .goes .0) in
+    let wd : Went bs (sheetBytes (c .table-2 .last .self)) (c .table-2 .last .self .at) (neededFrom bs) = went-table wc (d .kept) (d .goes .0) in
     let n = c .in-Continue-needed .ensures tt in
     let ef : c .in-Continue-f .f ≡ flows bs = b .goes .1 ∙ ap flows (wa .same) in
     let old = table-of wb (o .goes .1) in
