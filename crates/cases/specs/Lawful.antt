@@ -20,16 +20,23 @@ use Rattle.records.specs.Tables.{rowSize, hopAt, HopFits}
 abbrev pub HopsFit : List ℕ → List ℕ → Type 0
 HopsFit bs table = (s j : ℕ) → s < switches bs → j < rowSize (flows bs) → HopFits (links bs s) (hopAt (flows bs) table s j)
 
--- a sheet with no fault
+-- a sheet with no fault, in the order of its sections
 pub record LawfulSheet (bs : List ℕ) : Type 0 where
+  -- 1 to 64 switches
   pub some-switches : (0 < switches bs) × (switches bs ≤ 64)
+  -- a switch is linked to other switches only
   pub linked : (s t : ℕ) → s < switches bs → InSet (links bs s) t → (t < switches bs) × (t ≡ s → ⊥)
+  -- 1 to 8 flows
   pub some-flows : (0 < flows bs) × (flows bs ≤ 8)
+  -- a flow comes in and goes out at switches
   pub ends : (j : ℕ) → j < flows bs → (ingressOf bs j < switches bs) × (exitOf bs j < switches bs)
+  -- the counts of sections C, D and E
   pub counts : (byteAt bs (oldFrom bs) ≡ switches bs) × (byteAt bs (newFrom bs) ≡ switches bs) × (byteAt bs (neededFrom bs) ≡ flows bs)
   pub old-hops : HopsFit bs (oldTable bs)
   pub new-hops : HopsFit bs (newTable bs)
+  -- a flow needs switches only
   pub needs : (j t : ℕ) → j < flows bs → InSet (neededOf bs j) t → t < switches bs
+  -- the sheet ends where section E does
   pub ends-there : length bs ≡ sheetEnd bs
   pub few-movers : length (moversOf bs) ≤ 16
 

@@ -58,6 +58,7 @@ testOf k b = record { kind = k; passes = b } ∷ []
 abbrev pub piece : Section → ℕ → ℕ → FaultKind → Bool → Piece
 piece s p k kind passes = record { from = p; size = k; section = s; tests = testOf kind passes }
 
+-- the number of switches
 abbrev pub switchCount : List ℕ → Piece
 switchCount bs = piece A 0 1 SwitchCount (inRange 64 (switches bs))
 
@@ -65,6 +66,7 @@ switchCount bs = piece A 0 1 SwitchCount (inRange 64 (switches bs))
 abbrev pub linkMask : List ℕ → ℕ → Piece
 linkMask bs s = piece A (linksFrom s) 8 LinkMask (linksFit (switches bs) s (links bs s))
 
+-- the number of flows
 abbrev pub flowCount : List ℕ → Piece
 flowCount bs = piece B (flowsFrom bs) 1 FlowCount (inRange 8 (flows bs))
 
@@ -96,9 +98,11 @@ fewMovers bs = piece D (newFrom bs) 0 TooManyMovers (leb (length (moversOf bs)) 
 abbrev pub counted : Piece → (ℕ → Piece) → ℕ → List Piece
 counted head item k = head ∷ map item (counting 0 k)
 
+-- section A
 unfoldable pub sectionA : List ℕ → List Piece
 sectionA bs = counted (switchCount bs) (linkMask bs) (switches bs)
 
+-- section B
 unfoldable pub sectionB : List ℕ → List Piece
 sectionB bs = counted (flowCount bs) (λ j. flowEnds bs (endsFrom bs j)) (flows bs)
 
@@ -110,7 +114,7 @@ tableSection bs c p = counted (sameCount bs c p (switches bs)) (λ s. switchRow 
 unfoldable pub neededSection : List ℕ → ℕ → List Piece
 neededSection bs p = counted (sameCount bs E p (flows bs)) (λ j. neededMask bs (maskFrom p j)) (flows bs)
 
--- the whole sheet
+-- the whole sheet: its five sections, and then the two tests that close the reading
 unfoldable pub sheetPieces : List ℕ → List Piece
 sheetPieces bs = sectionA bs ++ (sectionB bs ++ (tableSection bs C (oldFrom bs) ++ (tableSection bs D (newFrom bs) ++ (neededSection bs (neededFrom bs) ++ (noMore bs ∷ (fewMovers bs ∷ []))))))
 

@@ -44,10 +44,11 @@ abbrev pub MaskRead : Reader → Reader → Section → Result ℕ Fault → Typ
 MaskRead r s c (Ok m) = Advanced 8 r s × (m ≡ maskAt (sheetBytes r) (r .at))
 MaskRead r s c (Err e) = RunsOut 8 r c e
 
--- the answer tells what is wrong with one piece, or the first fault of several
+-- the answer tells what is wrong with one piece
 abbrev pub ToldOf : {T : Type 0} → List ℕ → Piece → Result T Fault → Type 0
 ToldOf bs p r = toldBy r ≡ wrong (length bs) p
 
+-- the answer tells the first fault of several pieces
 abbrev pub TellsFirst : {T : Type 0} → List ℕ → List Piece → Result T Fault → Type 0
 TellsFirst bs ps r = toldBy r ≡ firstWrong (length bs) ps
 
