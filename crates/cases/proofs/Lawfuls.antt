@@ -1,33 +1,28 @@
 -- The list of pieces and the sheet's own words say the same.
 use mathlib.Core.Path.{_≡_, refl, sym, ap, subst, _∙_}
-use mathlib.Core.Bool.{Bool, true, false, cond, not, _&&_, _||_}
-use mathlib.Core.Logic.{_⊎_, inl, inr}
+use mathlib.Core.Bool.{Bool, true, false, cond, not, _&&_}
+use mathlib.Core.Logic.{inl, inr}
 use mathlib.Core.List.{List, [], _∷_, _++_, map}
-use Prim.Native.Nat.{ℕ, zero, suc, _+_, _*_, _^_, _≤_, _<_}
-use native.Mathlib.Nat.{add-mul}
+use Prim.Native.Nat.{ℕ, zero, suc, _+_, _*_, _≤_, _<_}
 use native.Mathlib.Omega.{arith}
 use lib.Dec.{leb, ltb, eqb}
-use lib.ListN.{length, getD, take, drop}
+use lib.ListN.{length, getD, drop}
 use Rattle.std.specs.Iters.{counting}
-use Rattle.std.specs.Orderings.{Decides}
-use Rattle.std.specs.shelf.Lists.{All}
-use Rattle.std.specs.declared.option.Option.{Option}
 use Rattle.std.specs.declared.option.Option.the-variants.{Some, None}
 use Rattle.std.proofs.shelf.Lists.{getD-take, getD-drop, length-take, length-drop}
-use Rattle.std.proofs.shelf.Tests.{leb-true, leb-false, ltb-true, eqb-true, le-leb, lt-leb, lt-ltb, eq-eqb, ne-eqb, and-parts, and-from, or-cases, or-left, or-right, not-true, not-from-false, cases-bool, cases-lt, both-ways}
-use Rattle.sets.specs.Sets.{bit, InSet, MembersBelow}
-use Rattle.sets.proofs.Laws.{below-ltb, member-eqb}
+use Rattle.std.proofs.shelf.Tests.{leb-true, ltb-true, eqb-true, le-leb, lt-ltb, eq-eqb, ne-eqb, and-parts, and-from, or-cases, or-left, or-right, not-true, not-from-false, both-ways}
+use Rattle.sets.specs.Sets.{bit, InSet}
+use Rattle.sets.proofs.Laws.{below-ltb}
 use Rattle.sheet.specs.declared.fault.FaultKind.{FaultKind}
 use Rattle.sheet.specs.declared.fault.FaultKind.the-variants.{EndsTooSoon}
-use Rattle.sheet.specs.declared.fault.Fault.{Fault}
 use Rattle.sheet.specs.declared.fault.Section.{Section}
 use Rattle.sheet.specs.declared.fault.Section.the-variants.{C, D, E}
-use Rattle.records.specs.Masks.{bytesAt, maskAt, inRange, maskFits, linksFit}
+use Rattle.records.specs.Masks.{bytesAt, inRange, maskFits, linksFit}
 use Rattle.sheet.specs.Faults.{faultOf}
-use Rattle.sheet.specs.Layout.{byteAt, switches, linksFrom, links, flows, flowsFrom, endsFrom, ingressOf, exitOf, rowFrom, tableAt, oldFrom, newFrom, oldTable, newTable, maskFrom, neededFrom, neededOf, sheetEnd, moversOf}
-use Rattle.cases.specs.Lawful.{HopsFit, LawfulSheet, Passes, CutShort, TestFails, FirstFails, none-told, isLawful}
-use Rattle.sheet.specs.Pieces.{Test, Piece, orLater, failing, wrong, firstWrong, piece, switchCount, linkMask, flowCount, flowEnds, sameCount, switchRow, neededMask, noMore, fewMovers, counted, sectionA, sectionB, tableSection, neededSection, sheetPieces, firstFault}
-use Rattle.records.specs.Tables.{rowSize, hopAt, HopFits, hopFits, rowFits}
+use Rattle.sheet.specs.Layout.{byteAt, switches, linksFrom, links, flows, flowsFrom, endsFrom, ingressOf, exitOf, rowFrom, tableAt, oldFrom, newFrom, maskFrom, neededFrom, neededOf, sheetEnd, moversOf}
+use Rattle.cases.specs.Lawful.{HopsFit, LawfulSheet}
+use Rattle.sheet.specs.Pieces.{Piece, orLater, wrong, firstWrong, piece, switchCount, linkMask, flowCount, flowEnds, sameCount, switchRow, neededMask, noMore, fewMovers, counted, sectionA, sectionB, tableSection, neededSection, sheetPieces, firstFault}
+use Rattle.records.specs.Tables.{HopFits, hopFits, rowFits}
 use Rattle.sheet.proofs.Firsts.{orLater-none, first-append}
 use Rattle.records.proofs.Rows.{row-inside}
 

@@ -1,11 +1,11 @@
 -- What the case of a lawful sheet has.
-use mathlib.Core.Path.{_≡_, refl, sym, ap, subst, _∙_}
+use mathlib.Core.Path.{_≡_, refl, sym, ap, _∙_}
 use mathlib.Core.Bool.{true, cond}
-use mathlib.Core.Logic.{_⊎_, inl, inr}
+use mathlib.Core.Logic.{inl, inr}
 use mathlib.Core.List.{List}
 use Prim.Native.Nat.{ℕ, _+_, _*_, _^_, _≤_, _<_}
 use native.Mathlib.Omega.{arith}
-use lib.ListN.{length, drop}
+use lib.ListN.{length}
 use Rattle.std.specs.declared.option.Option.{Option}
 use Rattle.std.specs.declared.option.Option.the-variants.{Some, None}
 use Rattle.std.proofs.shelf.Tests.{lt-ltb}
@@ -13,7 +13,7 @@ use Rattle.sets.specs.Sets.{Exactly, members}
 use Rattle.sets.proofs.Laws.{chosen-from-members}
 use Rattle.sheet.specs.declared.fault.Fault.{Fault}
 use Rattle.cases.specs.Lawful.{HopsFit, LawfulSheet, none-told, isLawful}
-use Rattle.sheet.specs.Layout.{switches, links, flows, endsFrom, tableAt, oldFrom, newFrom, oldTable, newTable, maskFrom, neededFrom, moversOf, ofFlow}
+use Rattle.sheet.specs.Layout.{switches, flows, endsFrom, oldFrom, newFrom, oldTable, newTable, maskFrom, neededFrom, moversOf, ofFlow}
 use Rattle.sheet.specs.Pieces.{firstFault}
 use Rattle.records.specs.Tables.{hopAt, HopsInside, Mover, rowsDiffer, movers}
 use Rattle.cases.proofs.Lawfuls.{lawful-from-none}

@@ -1,23 +1,21 @@
 -- The first fault of the list of pieces is the fault of the first piece that fails.
-use mathlib.Core.Path.{_≡_, refl, sym, ap, subst, _∙_}
-use mathlib.Core.Bool.{Bool, true, false, cond}
+use mathlib.Core.Path.{_≡_, refl, sym, ap, _∙_}
+use mathlib.Core.Bool.{true, false, cond}
 use mathlib.Core.Logic.{_⊎_, inl, inr}
 use mathlib.Core.List.{List, [], _∷_, _++_}
 use Prim.Native.Nat.{ℕ, _+_, _≤_, _<_}
 use native.Mathlib.Omega.{arith}
-use lib.Dec.{leb}
 use lib.ListN.{length}
 use Rattle.std.specs.shelf.Lists.{All}
 use Rattle.std.specs.declared.option.Option.{Option}
 use Rattle.std.specs.declared.option.Option.the-variants.{Some, None}
-use Rattle.std.proofs.shelf.Tests.{leb-true, leb-false, le-leb, lt-leb, cases-bool, cases-lt, both-ways}
+use Rattle.std.proofs.shelf.Tests.{le-leb, lt-leb, cases-bool, cases-lt}
 use Rattle.sheet.specs.declared.fault.FaultKind.the-variants.{EndsTooSoon}
 use Rattle.sheet.specs.declared.fault.Fault.{Fault}
 use Rattle.sheet.specs.declared.fault.Section.{Section}
 use Rattle.sheet.specs.Faults.{faultOf}
 use Rattle.cases.specs.Lawful.{Passes, CutShort, TestFails, FirstFails}
 use Rattle.sheet.specs.Pieces.{Test, Piece, orLater, failing, wrong, firstWrong, sheetPieces, firstFault}
-use Rattle.sheet.proofs.Firsts.{first-append}
 
 -- ---- tests
 

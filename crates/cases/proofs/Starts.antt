@@ -1,12 +1,12 @@
 -- What is told of a sheet hangs on its first 1,622 bytes alone.
-use mathlib.Core.Path.{_≡_, refl, sym, ap, ap₂, subst, _∙_}
-use mathlib.Core.Bool.{Bool, true, false, cond, _&&_}
+use mathlib.Core.Path.{_≡_, refl, sym, ap, _∙_}
+use mathlib.Core.Bool.{Bool, cond, _&&_}
 use mathlib.Core.Logic.{inl, inr}
 use mathlib.Core.List.{List, [], _∷_, _++_, map}
-use Prim.Native.Nat.{ℕ, zero, suc, _+_, _-_, _*_, _≤_, _<_, min}
+use Prim.Native.Nat.{ℕ, zero, suc, _+_, _-_, _*_, _≤_, _<_}
 use native.Mathlib.Omega.{arith}
 use lib.Dec.{leb, ltb, eqb}
-use lib.ListN.{length, getD, take, drop}
+use lib.ListN.{length, take, drop}
 use Rattle.std.specs.Iters.{counting}
 use Rattle.std.specs.shelf.Digits.{number}
 use Rattle.std.specs.declared.option.Option.{Option}
@@ -16,7 +16,7 @@ use Rattle.std.proofs.shelf.Lists.{getD-take, length-take, take-all, take-take}
 use Rattle.std.proofs.shelf.Parts.{between-is}
 use Rattle.std.proofs.shelf.Tests.{cases-lt, le-leb, lt-leb}
 use Rattle.records.specs.Masks.{bytesAt, maskAt, inRange, maskFits, linksFit}
-use Rattle.records.specs.Tables.{rowSize, rowFits}
+use Rattle.records.specs.Tables.{rowFits}
 use Rattle.records.proofs.Rows.{row-inside}
 use Rattle.sheet.specs.declared.fault.FaultKind.{FaultKind}
 use Rattle.sheet.specs.declared.fault.FaultKind.the-variants.{EndsTooSoon, SwitchCount, LinkMask, FlowCount, FlowEnds, SectionCount, Hop, NeededMask, BytesFollow}
@@ -27,7 +27,7 @@ use Rattle.sheet.specs.Faults.{faultOf}
 use Rattle.sheet.specs.Layout.{byteAt, switches, linksFrom, links, flows, flowsFrom, endsFrom, rowFrom, oldFrom, newFrom, maskFrom, neededFrom, sheetEnd}
 use Rattle.sheet.specs.Pieces.{Piece, testOf, orLater, failing, wrong, firstWrong, piece, switchCount, linkMask, flowCount, flowEnds, sameCount, switchRow, neededMask, noMore, fewMovers, counted, sectionA, sectionB, tableSection, neededSection, sheetPieces, firstFault}
 use Rattle.sheet.proofs.Firsts.{first-append}
-use Rattle.cases.proofs.Lawfuls.{lawful-from-none, Right, section-right, within-right, one-right}
+use Rattle.cases.proofs.Lawfuls.{lawful-from-none, section-right, within-right, one-right}
 
 -- ---- equal faults, piece by piece
 

@@ -1,21 +1,20 @@
 -- Rows of a table, and what it is for the two rows of a switch to differ.
-use mathlib.Core.Path.{_≡_, refl, sym, ap, _∙_}
-use mathlib.Core.Bool.{Bool, true, false, not, _&&_}
+use mathlib.Core.Path.{_≡_, sym, ap, _∙_}
+use mathlib.Core.Bool.{true, false}
 use mathlib.Core.Logic.{inl, inr}
 use mathlib.Core.List.{List, [], _∷_}
-use Prim.Native.Nat.{ℕ, zero, suc, _+_, _-_, _*_, _≤_, _<_, min}
-use native.Mathlib.Nat.{add-mul, one-mul, mul-le-mul-right}
-use native.Mathlib.Numerals.{add-one}
+use Prim.Native.Nat.{ℕ, suc, _+_, _-_, _*_, _≤_, _<_}
+use native.Mathlib.Nat.{add-mul, mul-le-mul-right}
 use native.Mathlib.Omega.{arith}
 use lib.Dec.{eqb}
-use lib.ListN.{length, getD, take, drop}
+use lib.ListN.{length, getD, drop}
 use Rattle.std.specs.shelf.Text.{sameBytes}
 use Rattle.std.proofs.shelf.Equals.{sameBytes-decides}
 use Rattle.std.proofs.shelf.Lists.{getD-take, getD-drop, length-take, length-drop}
-use Rattle.std.proofs.shelf.Tests.{and-cases, eqb-false, not-true, not-from-false, cases-bool, both-ways}
+use Rattle.std.proofs.shelf.Tests.{and-cases, eqb-false, not-true, not-from-false, cases-bool}
 use Rattle.sets.specs.Sets.{Exactly}
 use Rattle.sets.proofs.Laws.{Chosen}
-use Rattle.records.specs.Tables.{rowSize, tableRow, hopAt, Mover, rowsDiffer}
+use Rattle.records.specs.Tables.{tableRow, hopAt, Mover, rowsDiffer}
 
 -- the row of a switch below n lies within a table of n rows
 pub row-inside : (n f s size : ℕ) → s < n → n * f ≤ size → s * f + f ≤ size

@@ -1,7 +1,7 @@
 -- The bits of what `|`, `&`, `^` and `1 << s` give, and of a number less its lowest bits.
 use mathlib.Core.Path.{_≡_, refl, sym, ap, _∙_}
 use mathlib.Core.Logic.{_≢_, inl, inr}
-use Prim.Native.Nat.{ℕ, suc, _+_, _-_, _*_, _/_, _%_, _^_, _<_, _≤_, min, max}
+use Prim.Native.Nat.{ℕ, suc, _+_, _-_, _/_, _%_, _^_, _<_, min, max}
 use native.Mathlib.Nat.{div-eq-of-lt, div-one, one-mul, pow-suc, mul-mod-left}
 use native.Mathlib.Omega.{arith}
 use lib.Arith.{bin-ind}

@@ -14,12 +14,12 @@ use lib.ListN.{length}
 use Rattle.std.specs.Iters.{counting}
 use Rattle.std.specs.Orderings.{Decides}
 use Rattle.std.specs.shelf.Lists.{kept-by}
-use Rattle.std.proofs.shelf.Bits.{pow-below, pow-pos, shr-shr, div-below, div-add-mod', mod-below}
+use Rattle.std.proofs.shelf.Bits.{pow-pos, shr-shr, div-below, div-add-mod', mod-below}
 use Rattle.std.proofs.shelf.Tests.{cases-eq, cases-lt, eq-eqb, ne-eqb, eqb-true, ltb-true, lt-ltb, both-ways}
 use Rattle.std.proofs.shelf.Elements.{kept-by-append}
 use Rattle.std.proofs.shelf.Lists.{append-nil}
-use Rattle.sets.specs.Sets.{bit, InSet, Exactly, PartOf, Disjoint, SameMembers, MembersBelow, Empty, Lowest, members}
-use Rattle.sets.proofs.Bits.{bit-or, bit-and, bit-xor, bit-shr, bit-half, bit-zero, bit-high, bit-one, bit-other, no-bits, same-bits}
+use Rattle.sets.specs.Sets.{bit, InSet, Exactly, PartOf, Disjoint, SameMembers, MembersBelow, Lowest, members}
+use Rattle.sets.proofs.Bits.{bit-or, bit-and, bit-xor, bit-shr, bit-half, bit-zero, bit-one, bit-other, no-bits, same-bits}
 
 -- s is a member of m, or its bit is 0
 pub cases-member : (m s : ℕ) → InSet m s ⊎ (bit m s ≡ 0)

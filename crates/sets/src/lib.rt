@@ -1,7 +1,7 @@
 // Sets of switches 0 to 63 as numbers of 64 bits. A switch is any byte: one of 64 or above is in no set, and cannot be put into one.
 ghost use mathlib.Core.Path.{_≡_};
 ghost use mathlib.Core.Logic.{_⊎_};
-ghost use Prim.Native.Nat.{ℕ, _<_};
+ghost use Prim.Native.Nat.{_<_};
 ghost use lib.ListN.{length};
 ghost use Rattle.std.specs.Options.{Cases as BySome};
 ghost use Rattle.std.specs.Orderings.{Decides};

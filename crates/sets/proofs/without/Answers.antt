@@ -1,6 +1,4 @@
-use Prim.Native.Nat.{_^_, _≤_}
 use native.Mathlib.Omega.{arith}
-use lib.Pow.{pow-mono}
 use Rattle.std.proofs.shelf.Bits.{one-shl}
 use Rattle.sets.proofs.Laws.{without-members, number-below}
 use Rattle.sets.proofs.without.Needs as need

@@ -1,6 +1,6 @@
 // Bytes and records.
 ghost use mathlib.Core.Path.{_≡_};
-ghost use Prim.Native.Nat.{ℕ, _+_, _*_, _<_, _≤_};
+ghost use Prim.Native.Nat.{_+_, _*_, _<_, _≤_};
 ghost use lib.ListN.{length};
 ghost use Rattle.std.specs.Vec.{made};
 ghost use Rattle.sheet.specs.Layout.{switches, linksFrom, links as linksAt, flowsFrom, flows, endsFrom};

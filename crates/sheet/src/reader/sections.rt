@@ -1,9 +1,8 @@
 // Sections, each a count and then its records.
 ghost use mathlib.Core.Path.{_≡_};
-ghost use Prim.Native.Nat.{ℕ, _+_, _*_, _<_, _≤_};
-ghost use lib.ListN.{length};
+ghost use Prim.Native.Nat.{_<_, _≤_};
 ghost use Rattle.std.specs.Vec.{made};
-ghost use Rattle.sheet.specs.Layout.{switches, linksFrom, flowsFrom, flows, endsFrom, maskFrom, sheetEnd};
+ghost use Rattle.sheet.specs.Layout.{switches, flowsFrom, flows, endsFrom, maskFrom, sheetEnd};
 ghost use Rattle.sheet.specs.Pieces.{sectionA, sectionB, tableSection, neededSection, noMore};
 ghost use Rattle.sheet.specs.Reads.{sheetBytes, ToldOf, TellsFirst, Going, Passing, TableRead};
 use crate::fault::Fault;

@@ -2,7 +2,7 @@ use mathlib.Core.Path.{_≡_, ap}
 use Prim.Native.Nat.{_+_, _*_}
 use native.Mathlib.Omega.{arith}
 use lib.ListN.{getD}
-use Rattle.sheet.specs.Layout.{switches, flows, endsFrom, exitOf}
+use Rattle.sheet.specs.Layout.{flows, endsFrom, exitOf}
 use Rattle.cases.proofs.Laws.{lawful-of, ends-inside, of-flow}
 use Rattle.cases.proofs.Case.exit.Needs as need
 

@@ -2,7 +2,6 @@ use mathlib.Core.Bool.{cond}
 use mathlib.Core.Path.{_≡_, refl, sym, ap, subst, _∙_}
 use Prim.Native.Nat.{_+_, _*_}
 use native.Mathlib.Omega.{arith}
-use lib.Dec.{leb}
 use lib.ListN.{length}
 use Rattle.std.specs.Options.{Cases}
 use Rattle.std.specs.declared.option.Option.the-variants.{Some, None}

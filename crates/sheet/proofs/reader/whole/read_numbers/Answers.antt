@@ -1,12 +1,11 @@
-use mathlib.Core.Path.{_≡_, refl, sym, ap, subst, _∙_}
-use Prim.Native.Nat.{ℕ, _+_, _*_, _≤_}
+use mathlib.Core.Path.{_≡_, ap, subst, _∙_}
 use native.Mathlib.Omega.{arith}
 use lib.ListN.{length}
 use Rattle.std.specs.declared.option.Option.the-variants.{Some, None}
 use Rattle.std.proofs.shelf.Results.{err-from-errBy}
 use Rattle.sheet.specs.declared.fault.Section.the-variants.{C, D}
-use Rattle.sheet.specs.Layout.{switches, flows, flowsFrom, oldFrom, newFrom, neededFrom}
-use Rattle.sheet.specs.Pieces.{firstFault, wrong, noMore, fewMovers}
+use Rattle.sheet.specs.Layout.{flows, flowsFrom, oldFrom, newFrom, neededFrom}
+use Rattle.sheet.specs.Pieces.{wrong, noMore}
 use Rattle.sheet.specs.Reads.{sheetBytes}
 use Rattle.sheet.proofs.Wholes.{Went, went-b, went-table, told-b, told-table, told-needed, told-movers, same-movers, table-of, table-whole, fault-a, fault-b, fault-c, fault-d, fault-e, fault-more, fault-last}
 use Rattle.sheet.proofs.reader.whole.read_numbers.Needs as need
