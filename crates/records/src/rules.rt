@@ -9,6 +9,9 @@ ghost use Rattle.std.specs.shelf.Digits.{number};
 ghost use Rattle.records.specs.Masks.{maskAt, inRange as withinOf, maskFits, linksFit};
 ghost use Rattle.records.specs.Tables.{rowFits, hopFits};
 
+// What a row has in place of a next hop.
+const NO_HOP: u8 = 255;
+
 // Whether a count is from 1 to most.
 pub fn within(most: u8, count: u8) -> bool
     ensures { λ r. ⌜ r ≡ withinOf most count ⌝ }
@@ -57,7 +60,7 @@ pub fn links_fit(m: u64, n: u8, s: u8) -> bool
 fn hop_fits(m: u64, hop: u8) -> bool
     ensures { λ r. ⌜ r ≡ hopFits m hop ⌝ }
 {
-    hop == 255 || sets::has(m, hop)
+    hop == NO_HOP || sets::has(m, hop)
 }
 
 // Whether each hop of a row fits.

@@ -13,6 +13,9 @@ use crate::fault::FaultKind;
 use crate::fault::Section;
 use records::movers;
 
+// The most switches that may move.
+const MOST_MOVERS: u8 = 16;
+
 // The fault of a test that did not pass, in a record at the place.
 pub(crate) fn tested(
     passes: bool,
@@ -48,7 +51,7 @@ pub(crate) fn few_movers(
 {
     let moving = movers(old, new, n, f).unwrap_or(0);
     tested(
-        sets::count(moving) <= 16,
+        sets::count(moving) <= MOST_MOVERS,
         FaultKind::TooManyMovers,
         section,
         place,

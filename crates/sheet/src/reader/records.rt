@@ -18,6 +18,14 @@ use records::mask_fits;
 use records::row_fits;
 use records::within;
 
+// The most switches and flows that a sheet can have.
+const MOST_SWITCHES: u8 = 64;
+
+const MOST_FLOWS: u8 = 8;
+
+// The size of a mask in bytes.
+const MASK: u8 = 8;
+
 impl<'a> Reader<'a> {
     // The next byte, which belongs to the section.
     fn byte(&mut self, section: Section) -> Result<u8, Fault>
@@ -55,7 +63,7 @@ impl<'a> Reader<'a> {
         ensures reads { λ r. ⌜ MaskRead (now (self .entry)) (now (self .exit)) section r ⌝ }
     {
         let place = self.at;
-        self.record(section, 8)?;
+        self.record(section, MASK)?;
         Ok(mask_at(self.sheet, place).unwrap_or(0))
     }
 
@@ -68,7 +76,12 @@ impl<'a> Reader<'a> {
         ensures few { λ r. ⌜ made r (λ n. n ≤ 64) ⌝ }
     {
         let n = self.byte(Section::A)?;
-        tested(within(64, n), FaultKind::SwitchCount, Section::A, 0)?;
+        tested(
+            within(MOST_SWITCHES, n),
+            FaultKind::SwitchCount,
+            Section::A,
+            0,
+        )?;
         Ok(n)
     }
 
@@ -98,7 +111,12 @@ impl<'a> Reader<'a> {
     {
         let place = self.at;
         let f = self.byte(Section::B)?;
-        tested(within(8, f), FaultKind::FlowCount, Section::B, place)?;
+        tested(
+            within(MOST_FLOWS, f),
+            FaultKind::FlowCount,
+            Section::B,
+            place,
+        )?;
         Ok(f)
     }
 

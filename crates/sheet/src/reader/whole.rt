@@ -18,7 +18,7 @@ pub struct Numbers {
     pub movers: u64,
 }
 
-// Reads a whole sheet.
+// Reads a whole sheet: its numbers, or its first fault.
 pub fn read_numbers(sheet: &[u8]) -> Result<Numbers, Fault>
     ensures tells { λ r. ⌜ toldBy r ≡ firstFault (now (sheet .entry)) ⌝ }
     ensures counts { λ r. ⌜ made r (λ k. (k .switches ≡ switchesOf (now (sheet .entry))) × (k .flows ≡ flowsOf (now (sheet .entry)))) ⌝ }
