@@ -3,12 +3,12 @@
 mod tests {
     use cases::Case;
     use cases::read;
-    use sheet::fault::FaultKind;
-    use sheet::fault::FaultKindDebug;
-    use sheet::fault::FaultKindPartialEq;
-    use sheet::fault::Section;
-    use sheet::fault::SectionDebug;
-    use sheet::fault::SectionPartialEq;
+    use faults::FaultKind;
+    use faults::FaultKindDebug;
+    use faults::FaultKindPartialEq;
+    use faults::Section;
+    use faults::SectionDebug;
+    use faults::SectionPartialEq;
     use std::test::*;
 
     // Four switches and one flow from 0 to 3, whose middle two switches change places.

@@ -13,12 +13,12 @@ use Rattle.std.proofs.shelf.Lists.{getD-take, getD-drop, length-take, length-dr
 use Rattle.std.proofs.shelf.Tests.{leb-true, ltb-true, eqb-true, le-leb, lt-ltb, eq-eqb, ne-eqb, and-parts, and-from, or-cases, or-left, or-right, not-true, not-from-false, both-ways}
 use Rattle.sets.specs.Sets.{bit, InSet}
 use Rattle.sets.proofs.Laws.{below-ltb}
-use Rattle.sheet.specs.declared.fault.FaultKind.{FaultKind}
-use Rattle.sheet.specs.declared.fault.FaultKind.the-variants.{EndsTooSoon}
-use Rattle.sheet.specs.declared.fault.Section.{Section}
-use Rattle.sheet.specs.declared.fault.Section.the-variants.{C, D, E}
+use Rattle.faults.specs.declared.FaultKind.{FaultKind}
+use Rattle.faults.specs.declared.FaultKind.the-variants.{EndsTooSoon}
+use Rattle.faults.specs.declared.Section.{Section}
+use Rattle.faults.specs.declared.Section.the-variants.{C, D, E}
 use Rattle.records.specs.Masks.{bytesAt, inRange, maskFits, linksFit}
-use Rattle.sheet.specs.Faults.{faultOf}
+use Rattle.faults.specs.Faults.{faultOf}
 use Rattle.sheet.specs.Layout.{byteAt, switches, linksFrom, links, flows, flowsFrom, endsFrom, ingressOf, exitOf, rowFrom, tableAt, oldFrom, newFrom, maskFrom, neededFrom, neededOf, sheetEnd, moversOf}
 use Rattle.cases.specs.Lawful.{HopsFit, LawfulSheet}
 use Rattle.sheet.specs.Pieces.{Piece, orLater, wrong, firstWrong, piece, switchCount, linkMask, flowCount, flowEnds, sameCount, switchRow, neededMask, noMore, fewMovers, counted, sectionA, sectionB, tableSection, neededSection, sheetPieces, firstFault}

@@ -11,7 +11,7 @@ use Rattle.std.specs.declared.option.Option.the-variants.{Some, None}
 use Rattle.std.proofs.shelf.Tests.{lt-ltb}
 use Rattle.sets.specs.Sets.{Exactly, members}
 use Rattle.sets.proofs.Laws.{chosen-from-members}
-use Rattle.sheet.specs.declared.fault.Fault.{Fault}
+use Rattle.faults.specs.declared.Fault.{Fault}
 use Rattle.cases.specs.Lawful.{HopsFit, LawfulSheet, none-told, isLawful}
 use Rattle.sheet.specs.Layout.{switches, flows, endsFrom, oldFrom, newFrom, oldTable, newTable, maskFrom, neededFrom, moversOf, ofFlow}
 use Rattle.sheet.specs.Pieces.{firstFault}

@@ -10,10 +10,10 @@ use Rattle.std.specs.shelf.Lists.{All}
 use Rattle.std.specs.declared.option.Option.{Option}
 use Rattle.std.specs.declared.option.Option.the-variants.{Some, None}
 use Rattle.std.proofs.shelf.Tests.{le-leb, lt-leb, cases-bool, cases-lt}
-use Rattle.sheet.specs.declared.fault.FaultKind.the-variants.{EndsTooSoon}
-use Rattle.sheet.specs.declared.fault.Fault.{Fault}
-use Rattle.sheet.specs.declared.fault.Section.{Section}
-use Rattle.sheet.specs.Faults.{faultOf}
+use Rattle.faults.specs.declared.FaultKind.the-variants.{EndsTooSoon}
+use Rattle.faults.specs.declared.Fault.{Fault}
+use Rattle.faults.specs.declared.Section.{Section}
+use Rattle.faults.specs.Faults.{faultOf}
 use Rattle.cases.specs.Lawful.{Passes, CutShort, TestFails, FirstFails}
 use Rattle.sheet.specs.Pieces.{Test, Piece, orLater, failing, wrong, firstWrong, sheetPieces, firstFault}
 

@@ -18,12 +18,12 @@ use Rattle.std.proofs.shelf.Tests.{cases-lt, le-leb, lt-leb}
 use Rattle.records.specs.Masks.{bytesAt, maskAt, inRange, maskFits, linksFit}
 use Rattle.records.specs.Tables.{rowFits}
 use Rattle.records.proofs.Rows.{row-inside}
-use Rattle.sheet.specs.declared.fault.FaultKind.{FaultKind}
-use Rattle.sheet.specs.declared.fault.FaultKind.the-variants.{EndsTooSoon, SwitchCount, LinkMask, FlowCount, FlowEnds, SectionCount, Hop, NeededMask, BytesFollow}
-use Rattle.sheet.specs.declared.fault.Fault.{Fault}
-use Rattle.sheet.specs.declared.fault.Section.{Section}
-use Rattle.sheet.specs.declared.fault.Section.the-variants.{A, B, C, D, E}
-use Rattle.sheet.specs.Faults.{faultOf}
+use Rattle.faults.specs.declared.FaultKind.{FaultKind}
+use Rattle.faults.specs.declared.FaultKind.the-variants.{EndsTooSoon, SwitchCount, LinkMask, FlowCount, FlowEnds, SectionCount, Hop, NeededMask, BytesFollow}
+use Rattle.faults.specs.declared.Fault.{Fault}
+use Rattle.faults.specs.declared.Section.{Section}
+use Rattle.faults.specs.declared.Section.the-variants.{A, B, C, D, E}
+use Rattle.faults.specs.Faults.{faultOf}
 use Rattle.sheet.specs.Layout.{byteAt, switches, linksFrom, links, flows, flowsFrom, endsFrom, rowFrom, oldFrom, newFrom, maskFrom, neededFrom, sheetEnd}
 use Rattle.sheet.specs.Pieces.{Piece, testOf, orLater, failing, wrong, firstWrong, piece, switchCount, linkMask, flowCount, flowEnds, sameCount, switchRow, neededMask, noMore, fewMovers, counted, sectionA, sectionB, tableSection, neededSection, sheetPieces, firstFault}
 use Rattle.sheet.proofs.Firsts.{first-append}

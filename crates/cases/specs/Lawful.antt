@@ -9,9 +9,9 @@ use Rattle.std.specs.shelf.Lists.{All}
 use Rattle.std.specs.declared.option.Option.{Option}
 use Rattle.std.specs.declared.option.Option.the-variants.{Some, None}
 use Rattle.sets.specs.Sets.{InSet}
-use Rattle.sheet.specs.declared.fault.FaultKind.the-variants.{EndsTooSoon}
-use Rattle.sheet.specs.declared.fault.Fault.{Fault}
-use Rattle.sheet.specs.Faults.{faultOf}
+use Rattle.faults.specs.declared.FaultKind.the-variants.{EndsTooSoon}
+use Rattle.faults.specs.declared.Fault.{Fault}
+use Rattle.faults.specs.Faults.{faultOf}
 use Rattle.sheet.specs.Layout.{byteAt, switches, links, flows, ingressOf, exitOf, oldFrom, newFrom, oldTable, newTable, neededFrom, neededOf, sheetEnd, moversOf}
 use Rattle.sheet.specs.Pieces.{Test, Piece, sheetPieces, firstFault}
 use Rattle.records.specs.Tables.{rowSize, hopAt, HopFits}

@@ -9,15 +9,15 @@ ghost use Rattle.std.specs.Orderings.{Decides};
 ghost use Rattle.std.specs.Results.{Cases as ByOk, isOk};
 ghost use Rattle.std.specs.declared.option.Option.the-variants.{Some};
 ghost use Rattle.sets.specs.Sets.{MembersBelow, Exactly, members};
-ghost use Rattle.sheet.specs.declared.fault.Fault.{Fault as FaultT};
-ghost use Rattle.sheet.specs.Faults.{toldBy};
+ghost use Rattle.faults.specs.declared.Fault.{Fault as FaultT};
+ghost use Rattle.faults.specs.Faults.{toldBy};
 ghost use Rattle.cases.specs.Lawful.{LawfulSheet, FirstFails, isLawful};
 ghost use Rattle.sheet.specs.Layout.{switches as switchesOf, flows as flowsOf, ingressOf, exitOf, neededOf, oldTable, newTable, moversOf, ofFlow, smallestSheet, endsFrom, oldFrom, newFrom, neededFrom, maskFrom};
 ghost use Rattle.sheet.specs.Pieces.{firstFault};
 ghost use Rattle.records.specs.Masks.{bytesAt};
 ghost use Rattle.records.specs.Tables.{rowSize, Mover, HopsInside};
+use faults::Fault;
 use records::mask_at;
-use sheet::fault::Fault;
 use sheet::read_numbers;
 
 #[derive(Drop)]

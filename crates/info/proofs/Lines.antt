@@ -16,10 +16,10 @@ use Rattle.std.proofs.shelf.Lists.{append-nil, append-assoc, take-all}
 use Rattle.std.proofs.shelf.Tests.{eq-eqb, ne-eqb, cases-lt}
 use Rattle.sets.specs.Sets.{bit, InSet, members}
 use Rattle.sets.proofs.Laws.{kept-more}
-use Rattle.sheet.specs.declared.fault.Fault.{Fault}
-use Rattle.sheet.specs.declared.fault.Section.{Section}
-use Rattle.sheet.specs.declared.fault.Section.the-variants.{A, B, C, D, E}
-use Rattle.sheet.specs.Faults.{numberOf, letterOf}
+use Rattle.faults.specs.declared.Fault.{Fault}
+use Rattle.faults.specs.declared.Section.{Section}
+use Rattle.faults.specs.declared.Section.the-variants.{A, B, C, D, E}
+use Rattle.faults.specs.Faults.{numberOf, letterOf}
 use Rattle.sheet.specs.Pieces.{firstFault}
 use Rattle.cases.proofs.Starts.{first-bytes, lawful-short}
 use Rattle.std.specs.declared.option.Option.{Option}

@@ -5,8 +5,8 @@ use lib.Chars.{codes}
 use Rattle.std.specs.Written.{decimal}
 use Rattle.std.specs.declared.option.Option.{Option}
 use Rattle.std.specs.declared.option.Option.the-variants.{Some, None}
-use Rattle.sheet.specs.declared.fault.Fault.{Fault}
-use Rattle.sheet.specs.Faults.{numberOf, letterOf}
+use Rattle.faults.specs.declared.Fault.{Fault}
+use Rattle.faults.specs.Faults.{numberOf, letterOf}
 use Rattle.sheet.specs.Layout.{switches, flows, moversOf}
 use Rattle.sheet.specs.Pieces.{firstFault}
 

@@ -11,7 +11,7 @@ ghost use Rattle.sets.specs.Sets.{members};
 ghost use Rattle.info.specs.Texts.{refusedText, moversText, summaryText, infoText, enoughBytes};
 use cases::Case;
 use cases::read;
-use sheet::fault::Fault;
+use faults::Fault;
 use std::alloc::AllocError;
 use std::alloc::Global;
 

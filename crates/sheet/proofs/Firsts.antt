@@ -8,7 +8,7 @@ use Rattle.std.specs.Iters.{counting}
 use Rattle.std.specs.declared.option.Option.{Option}
 use Rattle.std.specs.declared.option.Option.the-variants.{Some, None}
 use Rattle.std.proofs.shelf.Counted.{map-counting-more}
-use Rattle.sheet.specs.declared.fault.Fault.{Fault}
+use Rattle.faults.specs.declared.Fault.{Fault}
 use Rattle.sheet.specs.Pieces.{Piece, wrong, orLater, firstWrong, counted}
 
 orLater-assoc : (a b c : Option Fault) → orLater (orLater a b) c ≡ orLater a (orLater b c)

@@ -9,12 +9,12 @@ use lib.ListN.{length, drop}
 use Rattle.std.proofs.shelf.Lists.{length-take, length-drop}
 use Rattle.std.specs.declared.option.Option.{Option}
 use Rattle.std.specs.declared.option.Option.the-variants.{Some, None}
-use Rattle.sheet.specs.declared.fault.Fault.{Fault}
-use Rattle.sheet.specs.declared.fault.FaultKind.the-variants.{EndsTooSoon, TooManyMovers}
-use Rattle.sheet.specs.declared.fault.Section.{Section}
-use Rattle.sheet.specs.declared.fault.Section.the-variants.{C, D}
+use Rattle.faults.specs.declared.Fault.{Fault}
+use Rattle.faults.specs.declared.FaultKind.the-variants.{EndsTooSoon, TooManyMovers}
+use Rattle.faults.specs.declared.Section.{Section}
+use Rattle.faults.specs.declared.Section.the-variants.{C, D}
 use Rattle.std.proofs.shelf.Tests.{le-leb}
-use Rattle.sheet.specs.Faults.{faultOf}
+use Rattle.faults.specs.Faults.{faultOf}
 use Rattle.records.specs.Tables.{movers}
 use Rattle.sheet.specs.Layout.{switches, flows, flowsFrom, endsFrom, rowFrom, tableAt, oldFrom, newFrom, neededFrom, oldTable, newTable, moversOf}
 use Rattle.sheet.specs.Pieces.{Piece, wrong, orLater, firstWrong, sectionA, sectionB, tableSection, neededSection, noMore, fewMovers, sheetPieces, firstFault, failing, testOf}

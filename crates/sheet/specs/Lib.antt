@@ -1,4 +1,3 @@
 pub mod Layout
-pub mod Faults
 pub mod Pieces
 pub mod Reads

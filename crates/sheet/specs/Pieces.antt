@@ -9,12 +9,12 @@ use Rattle.std.specs.declared.option.Option.{Option}
 use Rattle.std.specs.declared.option.Option.the-variants.{Some, None}
 use Rattle.records.specs.Masks.{bytesAt, maskAt, inRange, maskFits, linksFit}
 use Rattle.records.specs.Tables.{rowSize, rowFits}
-use Rattle.sheet.specs.declared.fault.FaultKind.{FaultKind}
-use Rattle.sheet.specs.declared.fault.FaultKind.the-variants.{EndsTooSoon, SwitchCount, LinkMask, FlowCount, FlowEnds, SectionCount, Hop, NeededMask, BytesFollow, TooManyMovers}
-use Rattle.sheet.specs.declared.fault.Section.{Section}
-use Rattle.sheet.specs.declared.fault.Section.the-variants.{A, B, C, D, E}
-use Rattle.sheet.specs.declared.fault.Fault.{Fault}
-use Rattle.sheet.specs.Faults.{faultOf}
+use Rattle.faults.specs.declared.FaultKind.{FaultKind}
+use Rattle.faults.specs.declared.FaultKind.the-variants.{EndsTooSoon, SwitchCount, LinkMask, FlowCount, FlowEnds, SectionCount, Hop, NeededMask, BytesFollow, TooManyMovers}
+use Rattle.faults.specs.declared.Section.{Section}
+use Rattle.faults.specs.declared.Section.the-variants.{A, B, C, D, E}
+use Rattle.faults.specs.declared.Fault.{Fault}
+use Rattle.faults.specs.Faults.{faultOf}
 use Rattle.sheet.specs.Layout.{byteAt, switches, linksFrom, links, flowsFrom, flows, endsFrom, rowFrom, oldFrom, newFrom, neededFrom, maskFrom, sheetEnd, moversOf}
 
 -- a test of a piece: whether it passes, and the kind of fault where it does not

@@ -6,11 +6,11 @@ use denote.Ref.{RefT}
 use lib.ListN.{length}
 use Rattle.std.specs.declared.result.Result.{Result}
 use Rattle.std.specs.declared.result.Result.the-variants.{Ok, Err}
-use Rattle.sheet.specs.declared.fault.FaultKind.the-variants.{EndsTooSoon}
-use Rattle.sheet.specs.declared.fault.Section.{Section}
-use Rattle.sheet.specs.declared.fault.Fault.{Fault}
+use Rattle.faults.specs.declared.FaultKind.the-variants.{EndsTooSoon}
+use Rattle.faults.specs.declared.Section.{Section}
+use Rattle.faults.specs.declared.Fault.{Fault}
 use Rattle.sheet.specs.declared.reader.Reader.{Reader}
-use Rattle.sheet.specs.Faults.{faultOf, toldBy}
+use Rattle.faults.specs.Faults.{faultOf, toldBy}
 use Rattle.records.specs.Masks.{bytesAt, maskAt}
 use Rattle.sheet.specs.Layout.{byteAt, switches, rowFrom, tableAt}
 use Rattle.sheet.specs.Pieces.{Piece, wrong, firstWrong}

@@ -1,5 +1,4 @@
 // Reads a sheet and judges it: its numbers, or its first fault.
-pub mod fault;
 mod reader;
 mod tested;
 

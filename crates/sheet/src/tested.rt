@@ -5,12 +5,12 @@ ghost use lib.ListN.{length};
 ghost use Rattle.std.specs.Vec.{made};
 ghost use Rattle.sets.specs.Sets.{members};
 ghost use Rattle.records.specs.Tables.{WholeTables, movers as moversOf};
-ghost use Rattle.sheet.specs.declared.fault.FaultKind.the-variants.{TooManyMovers};
-ghost use Rattle.sheet.specs.Faults.{toldBy};
+ghost use Rattle.faults.specs.declared.FaultKind.the-variants.{TooManyMovers};
+ghost use Rattle.faults.specs.Faults.{toldBy};
 ghost use Rattle.sheet.specs.Pieces.{failing, testOf};
-use crate::fault::Fault;
-use crate::fault::FaultKind;
-use crate::fault::Section;
+use faults::Fault;
+use faults::FaultKind;
+use faults::Section;
 use records::movers;
 
 // The most switches that may move.

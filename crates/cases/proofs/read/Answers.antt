@@ -9,8 +9,8 @@ use Rattle.std.specs.declared.option.Option.the-variants.{Some, None}
 use Rattle.std.specs.declared.result.Result.{Result}
 use Rattle.std.specs.declared.result.Result.the-variants.{Ok, Err}
 use Rattle.std.proofs.shelf.Tests.{false≢true}
-use Rattle.sheet.specs.declared.fault.Fault.{Fault}
-use Rattle.sheet.specs.Faults.{toldBy}
+use Rattle.faults.specs.declared.Fault.{Fault}
+use Rattle.faults.specs.Faults.{toldBy}
 use Rattle.sheet.specs.Pieces.{firstFault}
 use Rattle.cases.specs.Lawful.{LawfulSheet, FirstFails}
 use Rattle.cases.proofs.Lawfuls.{lawful-from-none, none-from-lawful}

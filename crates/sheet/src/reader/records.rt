@@ -7,11 +7,11 @@ ghost use Rattle.sheet.specs.Layout.{switches, linksFrom, links as linksAt, fl
 ghost use Rattle.sheet.specs.Pieces.{switchCount, linkMask, flowCount, flowEnds, sameCount, switchRow, neededMask};
 ghost use Rattle.records.specs.Tables.{rowSize};
 ghost use Rattle.sheet.specs.Reads.{sheetBytes, ByteRead, BytesRead, MaskRead, ToldOf, Going, Passing};
-use crate::fault::Fault;
-use crate::fault::FaultKind;
-use crate::fault::Section;
 use crate::reader::Reader;
 use crate::tested::tested;
+use faults::Fault;
+use faults::FaultKind;
+use faults::Section;
 use records::links_fit;
 use records::mask_at;
 use records::mask_fits;

@@ -5,11 +5,11 @@ ghost use Rattle.std.specs.Vec.{made};
 ghost use Rattle.sheet.specs.Layout.{switches, flowsFrom, flows, endsFrom, maskFrom, sheetEnd};
 ghost use Rattle.sheet.specs.Pieces.{sectionA, sectionB, tableSection, neededSection, noMore};
 ghost use Rattle.sheet.specs.Reads.{sheetBytes, ToldOf, TellsFirst, Going, Passing, TableRead};
-use crate::fault::Fault;
-use crate::fault::FaultKind;
-use crate::fault::Section;
 use crate::reader::Reader;
 use crate::tested::tested;
+use faults::Fault;
+use faults::FaultKind;
+use faults::Section;
 
 impl<'a> Reader<'a> {
     // Section A: the number of switches, and the links of each.

@@ -2,13 +2,13 @@
 ghost use mathlib.Core.Path.{_≡_};
 ghost use Rattle.std.specs.Vec.{made};
 ghost use Rattle.sets.specs.Sets.{members};
-ghost use Rattle.sheet.specs.Faults.{toldBy};
+ghost use Rattle.faults.specs.Faults.{toldBy};
 ghost use Rattle.sheet.specs.Layout.{switches as switchesOf, flows as flowsOf, moversOf};
 ghost use Rattle.sheet.specs.Pieces.{firstFault};
-use crate::fault::Fault;
-use crate::fault::Section;
 use crate::reader::Reader;
 use crate::tested::few_movers;
+use faults::Fault;
+use faults::Section;
 
 // The numbers of a lawful sheet: its switches, its flows, and the set of its movers.
 #[derive(Clone, Copy)]

@@ -5,7 +5,7 @@ use native.Mathlib.Omega.{arith}
 use lib.ListN.{length}
 use Rattle.std.specs.declared.option.Option.the-variants.{Some, None}
 use Rattle.std.proofs.shelf.Results.{err-from-errBy}
-use Rattle.sheet.specs.declared.fault.Section.the-variants.{E}
+use Rattle.faults.specs.declared.Section.the-variants.{E}
 use Rattle.sheet.specs.Layout.{flows}
 use Rattle.sheet.specs.Pieces.{Piece, neededSection, sameCount, neededMask, wrong, firstWrong, counted}
 use Rattle.sheet.specs.Reads.{sheetBytes}

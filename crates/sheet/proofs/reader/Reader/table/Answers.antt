@@ -6,7 +6,7 @@ use native.Mathlib.Omega.{arith}
 use lib.ListN.{length, take, drop}
 use Rattle.std.specs.declared.option.Option.the-variants.{Some, None}
 use Rattle.std.proofs.shelf.Results.{err-from-errBy}
-use Rattle.sheet.specs.declared.fault.Section.{Section}
+use Rattle.faults.specs.declared.Section.{Section}
 use Rattle.records.specs.Masks.{bytesAt}
 use Rattle.sheet.specs.Layout.{switches, flows}
 use Rattle.sheet.specs.Pieces.{Piece, tableSection, sameCount, switchRow, wrong, firstWrong, counted}

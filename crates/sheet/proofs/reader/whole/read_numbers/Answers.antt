@@ -3,7 +3,7 @@ use native.Mathlib.Omega.{arith}
 use lib.ListN.{length}
 use Rattle.std.specs.declared.option.Option.the-variants.{Some, None}
 use Rattle.std.proofs.shelf.Results.{err-from-errBy}
-use Rattle.sheet.specs.declared.fault.Section.the-variants.{C, D}
+use Rattle.faults.specs.declared.Section.the-variants.{C, D}
 use Rattle.sheet.specs.Layout.{flows, flowsFrom, oldFrom, newFrom, neededFrom}
 use Rattle.sheet.specs.Pieces.{wrong, noMore}
 use Rattle.sheet.specs.Reads.{sheetBytes}

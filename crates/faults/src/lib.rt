@@ -1,6 +1,6 @@
 // What is wrong with a sheet: the kind of fault, the section and the place.
 ghost use mathlib.Core.Path.{_≡_};
-ghost use Rattle.sheet.specs.Faults.{numberOf, letterOf};
+ghost use Rattle.faults.specs.Faults.{numberOf, letterOf};
 
 #[derive(Clone, Copy, PartialEq, Eq, Debug)]
 pub enum FaultKind {

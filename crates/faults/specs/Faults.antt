@@ -4,11 +4,11 @@ use Rattle.std.specs.declared.option.Option.{Option}
 use Rattle.std.specs.declared.option.Option.the-variants.{Some, None}
 use Rattle.std.specs.declared.result.Result.{Result}
 use Rattle.std.specs.declared.result.Result.the-variants.{Ok, Err}
-use Rattle.sheet.specs.declared.fault.FaultKind.{FaultKind}
-use Rattle.sheet.specs.declared.fault.FaultKind.the-variants.{EndsTooSoon, SwitchCount, LinkMask, FlowCount, FlowEnds, SectionCount, Hop, NeededMask, BytesFollow, TooManyMovers}
-use Rattle.sheet.specs.declared.fault.Section.{Section}
-use Rattle.sheet.specs.declared.fault.Section.the-variants.{A, B, C, D, E}
-use Rattle.sheet.specs.declared.fault.Fault.{Fault}
+use Rattle.faults.specs.declared.FaultKind.{FaultKind}
+use Rattle.faults.specs.declared.FaultKind.the-variants.{EndsTooSoon, SwitchCount, LinkMask, FlowCount, FlowEnds, SectionCount, Hop, NeededMask, BytesFollow, TooManyMovers}
+use Rattle.faults.specs.declared.Section.{Section}
+use Rattle.faults.specs.declared.Section.the-variants.{A, B, C, D, E}
+use Rattle.faults.specs.declared.Fault.{Fault}
 
 -- the number under which a kind of fault is told
 abbrev pub numberOf : FaultKind → ℕ
