@@ -6,10 +6,9 @@ use mathlib.Core.List.{List, [], _∷_, _++_, map}
 use Prim.Native.Nat.{ℕ, zero, suc, _+_, _*_, _≤_, _<_}
 use native.Mathlib.Omega.{arith}
 use lib.Dec.{leb, ltb, eqb}
-use lib.ListN.{length, getD, drop}
+use lib.ListN.{length, getD}
 use Rattle.std.specs.Iters.{counting}
 use Rattle.std.specs.declared.option.Option.the-variants.{Some, None}
-use Rattle.std.proofs.shelf.Lists.{getD-take, getD-drop, length-take, length-drop}
 use Rattle.std.proofs.shelf.Tests.{leb-true, ltb-true, eqb-true, le-leb, lt-ltb, eq-eqb, ne-eqb, and-parts, and-from, or-cases, or-left, or-right, not-true, not-from-false, both-ways}
 use Rattle.sets.specs.Sets.{bit, InSet}
 use Rattle.sets.proofs.Laws.{below-ltb}
@@ -23,8 +22,9 @@ use Rattle.sheet.specs.Layout.{byteAt, switches, linksFrom, links, flows, flows
 use Rattle.cases.specs.Lawful.{HopsFit, LawfulSheet}
 use Rattle.sheet.specs.Pieces.{Piece, orLater, wrong, firstWrong, piece, switchCount, linkMask, flowCount, flowEnds, sameCount, switchRow, neededMask, noMore, fewMovers, counted, sectionA, sectionB, tableSection, neededSection, sheetPieces, firstFault}
 use Rattle.records.specs.Tables.{HopFits, hopFits, rowFits}
-use Rattle.sheet.proofs.Firsts.{orLater-none, first-append}
+use Rattle.sheet.proofs.Firsts.{orLater-none, first-append, closing, from-b, from-c, from-d, from-e}
 use Rattle.records.proofs.Rows.{row-inside}
+use Rattle.records.proofs.Words.{part-length, part-byte}
 
 -- ---- pieces
 
@@ -107,12 +107,7 @@ row-byte : (bs : List ℕ) (p n f s j : ℕ) → s < n → j < f → getD (bytes
 row-byte bs p n f s j hs hj =
     let inside = row-inside n f s (n * f) hs (omega arith) in
     let at : p + 1 + s * f + j ≡ p + 1 + (s * f + j) = omega arith in
-    getD-take f (drop (p + 1 + s * f) bs) j 0 hj ∙ getD-drop (p + 1 + s * f) bs j 0
-    ∙ ap (λ q. getD bs q 0) at
-    ∙ sym (getD-take (n * f) (drop (p + 1) bs) (s * f + j) 0 (omega arith) ∙ getD-drop (p + 1) bs (s * f + j) 0)
-
-row-size : (bs : List ℕ) (p f : ℕ) → p + f ≤ length bs → length (bytesAt bs p f) ≡ f
-row-size bs p f h = length-take f (drop p bs) ∙ omega (arith, length-drop p bs)
+    part-byte bs (p + 1 + s * f) f j hj ∙ ap (λ q. getD bs q 0) at ∙ sym (part-byte bs (p + 1) (n * f) (s * f + j) (omega arith))
 
 -- ---- tables
 
@@ -126,7 +121,7 @@ module _ (bs : List ℕ) (c : Section) (p : ℕ) where
       hops : HopsFit bs (tableAt bs p)
       hops s j hs hj =
           let w = one-right (length bs) c (rowFrom bs p s) (flows bs) _ (rowFits (links bs s) (bytesAt bs (rowFrom bs p s) (flows bs))) (r .each s hs) in
-          let less : j < length (bytesAt bs (rowFrom bs p s) (flows bs)) = omega (arith, row-size bs (rowFrom bs p s) (flows bs) (w .0), hj) in
+          let less : j < length (bytesAt bs (rowFrom bs p s) (flows bs)) = omega (arith, part-length bs (rowFrom bs p s) (flows bs) (w .0), hj) in
           subst (HopFits (links bs s)) (row-byte bs p (switches bs) (flows bs) s j hs hj) (row-right (links bs s) (bytesAt bs (rowFrom bs p s) (flows bs)) (w .1) j less)
 
   table-passes : rowFrom bs p (switches bs) ≤ length bs → byteAt bs p ≡ switches bs → HopsFit bs (tableAt bs p) → RightTable
@@ -134,7 +129,7 @@ module _ (bs : List ℕ) (c : Section) (p : ℕ) where
     first = one-passes (length bs) c p 1 _ (eqb (byteAt bs p) (switches bs)) (omega arith) (eq-eqb (byteAt bs p) (switches bs) count);
     each = λ s hs.
         let there : rowFrom bs p s + flows bs ≤ length bs = omega (arith, row-inside (switches bs) (flows bs) s (switches bs * flows bs) hs (omega arith), inside) in
-        let size = row-size bs (rowFrom bs p s) (flows bs) there in
+        let size = part-length bs (rowFrom bs p s) (flows bs) there in
         one-passes (length bs) c (rowFrom bs p s) (flows bs) _ (rowFits (links bs s) (bytesAt bs (rowFrom bs p s) (flows bs))) there
         (row-passes (links bs s) (bytesAt bs (rowFrom bs p s) (flows bs)) (λ j hj. subst (HopFits (links bs s)) (sym (row-byte bs p (switches bs) (flows bs) s j hs (omega (arith, size)))) (hops s j hs (omega (arith, size)))));
   }
@@ -157,18 +152,15 @@ join-none : (n : ℕ) (ps qs : List Piece) → firstWrong n ps ≡ None → firs
 join-none n ps qs a b = first-append n ps qs ∙ ap (λ o. orLater o (firstWrong n qs)) a ∙ b
 
 module _ (bs : List ℕ) where
-  abbrev closing : List Piece
-  closing = noMore bs ∷ (fewMovers bs ∷ [])
-
   sections-right : firstFault bs ≡ None → Sections bs
   unfolding sheetPieces sectionA sectionB tableSection neededSection
   sections-right h =
       let n = length bs in
-      let a = split-none n (sectionA bs) (sectionB bs ++ (tableSection bs C (oldFrom bs) ++ (tableSection bs D (newFrom bs) ++ (neededSection bs (neededFrom bs) ++ closing)))) h in
-      let b = split-none n (sectionB bs) (tableSection bs C (oldFrom bs) ++ (tableSection bs D (newFrom bs) ++ (neededSection bs (neededFrom bs) ++ closing))) (a .1) in
-      let c = split-none n (tableSection bs C (oldFrom bs)) (tableSection bs D (newFrom bs) ++ (neededSection bs (neededFrom bs) ++ closing)) (b .1) in
-      let d = split-none n (tableSection bs D (newFrom bs)) (neededSection bs (neededFrom bs) ++ closing) (c .1) in
-      let e = split-none n (neededSection bs (neededFrom bs)) closing (d .1) in
+      let a = split-none n (sectionA bs) (from-b bs) h in
+      let b = split-none n (sectionB bs) (from-c bs) (a .1) in
+      let c = split-none n (tableSection bs C (oldFrom bs)) (from-d bs) (b .1) in
+      let d = split-none n (tableSection bs D (newFrom bs)) (from-e bs) (c .1) in
+      let e = split-none n (neededSection bs (neededFrom bs)) (closing bs) (d .1) in
       let f = orLater-none (wrong n (noMore bs)) (firstWrong n (fewMovers bs ∷ [])) (e .1) in
       record {
         in-a = section-right n (switchCount bs) (linkMask bs) (switches bs) (a .0);
@@ -184,12 +176,12 @@ module _ (bs : List ℕ) where
   unfolding sheetPieces sectionA sectionB tableSection neededSection
   sections-clear r =
       let n = length bs in
-      let last : firstWrong n closing ≡ None = ap (λ o. orLater o (orLater (wrong n (fewMovers bs)) None)) (r .more) ∙ ap (λ o. orLater o None) (r .few) in
-      join-none n (sectionA bs) (sectionB bs ++ (tableSection bs C (oldFrom bs) ++ (tableSection bs D (newFrom bs) ++ (neededSection bs (neededFrom bs) ++ closing)))) (section-clear n (switchCount bs) (linkMask bs) (switches bs) (r .in-a))
-      (join-none n (sectionB bs) (tableSection bs C (oldFrom bs) ++ (tableSection bs D (newFrom bs) ++ (neededSection bs (neededFrom bs) ++ closing))) (section-clear n (flowCount bs) (λ j. flowEnds bs (endsFrom bs j)) (flows bs) (r .in-b))
-      (join-none n (tableSection bs C (oldFrom bs)) (tableSection bs D (newFrom bs) ++ (neededSection bs (neededFrom bs) ++ closing)) (section-clear n (sameCount bs C (oldFrom bs) (switches bs)) (λ s. switchRow bs C (rowFrom bs (oldFrom bs) s) s) (switches bs) (r .in-c))
-      (join-none n (tableSection bs D (newFrom bs)) (neededSection bs (neededFrom bs) ++ closing) (section-clear n (sameCount bs D (newFrom bs) (switches bs)) (λ s. switchRow bs D (rowFrom bs (newFrom bs) s) s) (switches bs) (r .in-d))
-      (join-none n (neededSection bs (neededFrom bs)) closing (section-clear n (sameCount bs E (neededFrom bs) (flows bs)) (λ j. neededMask bs (maskFrom (neededFrom bs) j)) (flows bs) (r .in-e)) last))))
+      let last : firstWrong n (closing bs) ≡ None = ap (λ o. orLater o (orLater (wrong n (fewMovers bs)) None)) (r .more) ∙ ap (λ o. orLater o None) (r .few) in
+      join-none n (sectionA bs) (from-b bs) (section-clear n (switchCount bs) (linkMask bs) (switches bs) (r .in-a))
+      (join-none n (sectionB bs) (from-c bs) (section-clear n (flowCount bs) (λ j. flowEnds bs (endsFrom bs j)) (flows bs) (r .in-b))
+      (join-none n (tableSection bs C (oldFrom bs)) (from-d bs) (section-clear n (sameCount bs C (oldFrom bs) (switches bs)) (λ s. switchRow bs C (rowFrom bs (oldFrom bs) s) s) (switches bs) (r .in-c))
+      (join-none n (tableSection bs D (newFrom bs)) (from-e bs) (section-clear n (sameCount bs D (newFrom bs) (switches bs)) (λ s. switchRow bs D (rowFrom bs (newFrom bs) s) s) (switches bs) (r .in-d))
+      (join-none n (neededSection bs (neededFrom bs)) (closing bs) (section-clear n (sameCount bs E (neededFrom bs) (flows bs)) (λ j. neededMask bs (maskFrom (neededFrom bs) j)) (flows bs) (r .in-e)) last))))
 
   lawful-from-sections : Sections bs → LawfulSheet bs
   lawful-from-sections r =

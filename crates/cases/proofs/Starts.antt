@@ -26,7 +26,7 @@ use Rattle.faults.specs.declared.Section.the-variants.{A, B, C, D, E}
 use Rattle.faults.specs.Faults.{faultOf}
 use Rattle.sheet.specs.Layout.{byteAt, switches, linksFrom, links, flows, flowsFrom, endsFrom, rowFrom, oldFrom, newFrom, maskFrom, neededFrom, sheetEnd}
 use Rattle.sheet.specs.Pieces.{Piece, testOf, orLater, failing, wrong, firstWrong, piece, switchCount, linkMask, flowCount, flowEnds, sameCount, switchRow, neededMask, noMore, fewMovers, counted, sectionA, sectionB, tableSection, neededSection, sheetPieces, firstFault}
-use Rattle.sheet.proofs.Firsts.{first-append}
+use Rattle.sheet.proofs.Firsts.{first-append, closing, from-b, from-c, from-d, from-e}
 use Rattle.cases.proofs.Lawfuls.{lawful-from-none, section-right, within-right, one-right}
 
 -- ---- equal faults, piece by piece
@@ -190,21 +190,6 @@ module _ (bs : List ℕ) (k : ℕ) (long : k < length bs) (enough : 1622 ≤ k) 
   unfolding sectionB
   light-from-b none = within-right 8 (flows bs) (one-right (length bs) B (flowsFrom bs) 1 FlowCount (inRange 8 (flows bs)) (section-right (length bs) (flowCount bs) (λ j. flowEnds bs (endsFrom bs j)) (flows bs) none .first) .1) .1
 
-  abbrev tail : List ℕ → List Piece
-  tail ds = noMore ds ∷ (fewMovers ds ∷ [])
-
-  abbrev from-e : List ℕ → List Piece
-  from-e ds = neededSection ds (neededFrom ds) ++ tail ds
-
-  abbrev from-d : List ℕ → List Piece
-  from-d ds = tableSection ds D (newFrom ds) ++ from-e ds
-
-  abbrev from-c : List ℕ → List Piece
-  from-c ds = tableSection ds C (oldFrom ds) ++ from-d ds
-
-  abbrev from-b : List ℕ → List Piece
-  from-b ds = sectionB ds ++ from-c ds
-
   pub start-same : firstFault cs ≡ firstFault bs
   unfolding sheetPieces
   start-same =
@@ -215,7 +200,7 @@ module _ (bs : List ℕ) (k : ℕ) (long : k < length bs) (enough : 1622 ≤ k) 
       let product = mul-le (switches bs) (flows bs) 64 8 few light in
       joined-same (length cs) (length bs) (tableSection cs C (oldFrom cs)) (from-d cs) (tableSection bs C (oldFrom bs)) (from-d bs) (table-same few light C (oldFrom cs) (oldFrom bs) (old-same few light) (omega (arith, few, light))) (λ _.
       joined-same (length cs) (length bs) (tableSection cs D (newFrom cs)) (from-e cs) (tableSection bs D (newFrom bs)) (from-e bs) (table-same few light D (newFrom cs) (newFrom bs) (new-same few light) (omega (arith, few, light, product))) (λ _.
-      joined-same (length cs) (length bs) (neededSection cs (neededFrom cs)) (tail cs) (neededSection bs (neededFrom bs)) (tail bs) (e-same few light) (λ _.
+      joined-same (length cs) (length bs) (neededSection cs (neededFrom cs)) (closing cs) (neededSection bs (neededFrom bs)) (closing bs) (e-same few light) (λ _.
       orLater-same (wrong (length cs) (noMore cs)) (wrong (length bs) (noMore bs)) (firstWrong (length cs) (fewMovers cs ∷ [])) (firstWrong (length bs) (fewMovers bs ∷ [])) (more-same few light) (λ none. absurd (more-some few light none)))))))
 
 -- what is told of a sheet is told of its first 1,622 bytes

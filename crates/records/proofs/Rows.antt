@@ -7,13 +7,13 @@ use Prim.Native.Nat.{ℕ, suc, _+_, _-_, _*_, _≤_, _<_}
 use native.Mathlib.Nat.{add-mul, mul-le-mul-right}
 use native.Mathlib.Omega.{arith}
 use lib.Dec.{eqb}
-use lib.ListN.{length, getD, drop}
+use lib.ListN.{length, getD}
 use Rattle.std.specs.shelf.Text.{sameBytes}
 use Rattle.std.proofs.shelf.Equals.{sameBytes-decides}
-use Rattle.std.proofs.shelf.Lists.{getD-take, getD-drop, length-take, length-drop}
 use Rattle.std.proofs.shelf.Tests.{and-cases, eqb-false, not-true, not-from-false, cases-bool}
 use Rattle.sets.specs.Sets.{Exactly}
 use Rattle.sets.proofs.Laws.{Chosen}
+use Rattle.records.proofs.Words.{part-length, part-byte}
 use Rattle.records.specs.Tables.{tableRow, hopAt, Mover, rowsDiffer}
 
 -- the row of a switch below n lies within a table of n rows
@@ -21,10 +21,7 @@ pub row-inside : (n f s size : ℕ) → s < n → n * f ≤ size → s * f + f �
 row-inside n f s size h all = omega (arith, mul-le-mul-right {m = s + 1} {n = n} f (omega arith), add-mul s 1 f)
 
 pub row-hop : (f : ℕ) (table : List ℕ) (s j : ℕ) → j < f → getD (tableRow f table s) j 0 ≡ hopAt f table s j
-row-hop f table s j h = getD-take f (drop (s * f) table) j 0 h ∙ getD-drop (s * f) table j 0
-
-row-length : (f : ℕ) (table : List ℕ) (s : ℕ) → s * f + f ≤ length table → length (tableRow f table s) ≡ f
-row-length f table s h = length-take f (drop (s * f) table) ∙ omega (arith, length-drop (s * f) table)
+row-hop f table s j h = part-byte table (s * f) f j h
 
 -- lists that are not the same differ at some place
 parted : (xs ys : List ℕ) → length xs ≡ length ys → sameBytes xs ys ≡ false → (j : ℕ) × (j < length xs) × (getD xs j 0 ≡ getD ys j 0 → ⊥)
@@ -40,8 +37,8 @@ parted (x ∷ xs) (y ∷ ys) l e =
 module _ (n f : ℕ) (old new : List ℕ) (in-old : n * f ≤ length old) (in-new : n * f ≤ length new) where
   pub mover-from-moves : (s : ℕ) → s < n → rowsDiffer f old new s ≡ true → Mover n f old new s
   mover-from-moves s h e =
-      let lo = row-length f old s (row-inside n f s (length old) h in-old) in
-      let ln = row-length f new s (row-inside n f s (length new) h in-new) in
+      let lo = part-length old (s * f) f (row-inside n f s (length old) h in-old) in
+      let ln = part-length new (s * f) f (row-inside n f s (length new) h in-new) in
       let p = parted (tableRow f old s) (tableRow f new s) (lo ∙ sym ln) (not-true (sameBytes (tableRow f old s) (tableRow f new s)) e) in
       let less : p .0 < f = omega (arith, p .1, lo) in
       record { inside = h; place = (p .0, less, (λ same. p .2 (row-hop f old s (p .0) less ∙ same ∙ sym (row-hop f new s (p .0) less)))) }

@@ -1,4 +1,4 @@
--- Numbers written by bytes, and rows read hop by hop.
+-- Numbers written by bytes, rows read hop by hop, and parts of a list.
 use mathlib.Core.Path.{_≡_, ap, _∙_}
 use mathlib.Core.Bool.{true, false, _&&_}
 use mathlib.Core.List.{List}
@@ -9,7 +9,8 @@ use native.Mathlib.Omega.{arith}
 use lib.ListN.{length, getD, take, drop}
 use Rattle.std.specs.shelf.Digits.{number}
 use Rattle.std.proofs.shelf.Digits.{number-more}
-use Rattle.std.proofs.shelf.Lists.{at-drop-more}
+use Rattle.std.proofs.shelf.Lists.{at-drop-more, getD-take, getD-drop, length-take, length-drop}
+use Rattle.records.specs.Masks.{bytesAt}
 use Rattle.records.specs.Tables.{hopFits, rowFits}
 
 -- one byte more is below the next power
@@ -32,3 +33,10 @@ row-more m row i h e = at-drop-more (rowFits m) row i 0 h ∙ ap (λ b. b && row
 
 pub row-stops : (m : ℕ) (row : List ℕ) (i : ℕ) → i < length row → hopFits m (getD row i 0) ≡ false → rowFits m (drop i row) ≡ false
 row-stops m row i h e = at-drop-more (rowFits m) row i 0 h ∙ ap (λ b. b && rowFits m (drop (i + 1) row)) e
+
+-- a part of a list: its length, and what stands in it
+pub part-length : (xs : List ℕ) (p k : ℕ) → p + k ≤ length xs → length (bytesAt xs p k) ≡ k
+part-length xs p k h = length-take k (drop p xs) ∙ omega (arith, length-drop p xs)
+
+pub part-byte : (xs : List ℕ) (p k j : ℕ) → j < k → getD (bytesAt xs p k) j 0 ≡ getD xs (p + j) 0
+part-byte xs p k j h = getD-take k (drop p xs) j 0 h ∙ getD-drop p xs j 0

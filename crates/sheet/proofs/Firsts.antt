@@ -9,7 +9,9 @@ use Rattle.std.specs.declared.option.Option.{Option}
 use Rattle.std.specs.declared.option.Option.the-variants.{Some, None}
 use Rattle.std.proofs.shelf.Counted.{map-counting-more}
 use Rattle.faults.specs.declared.Fault.{Fault}
-use Rattle.sheet.specs.Pieces.{Piece, wrong, orLater, firstWrong, counted}
+use Rattle.faults.specs.declared.Section.the-variants.{C, D}
+use Rattle.sheet.specs.Layout.{oldFrom, newFrom, neededFrom}
+use Rattle.sheet.specs.Pieces.{Piece, wrong, orLater, firstWrong, counted, sectionB, tableSection, neededSection, noMore, fewMovers}
 
 orLater-assoc : (a b c : Option Fault) → orLater (orLater a b) c ≡ orLater a (orLater b c)
 orLater-assoc None b c = refl
@@ -74,3 +76,19 @@ module _ (head : List ℕ → Piece) (item : List ℕ → ℕ → Piece) (count 
   section-pass bs ms i m end h before =
       all-pass (length bs) (head bs) (item bs) (count bs) h
       (subst (λ j. Clear (length bs) (item bs) j) end (subst (λ x. Clear (length x) (item x) i) m before))
+
+-- What is left of a sheet's pieces from each section on.
+abbrev pub closing : List ℕ → List Piece
+closing bs = noMore bs ∷ (fewMovers bs ∷ [])
+
+abbrev pub from-e : List ℕ → List Piece
+from-e bs = neededSection bs (neededFrom bs) ++ closing bs
+
+abbrev pub from-d : List ℕ → List Piece
+from-d bs = tableSection bs D (newFrom bs) ++ from-e bs
+
+abbrev pub from-c : List ℕ → List Piece
+from-c bs = tableSection bs C (oldFrom bs) ++ from-d bs
+
+abbrev pub from-b : List ℕ → List Piece
+from-b bs = sectionB bs ++ from-c bs

@@ -1,12 +1,11 @@
 -- The first fault of the whole sheet, section by section.
 use mathlib.Core.Path.{_≡_, sym, ap, subst, _∙_}
 use mathlib.Core.Bool.{cond}
-use mathlib.Core.List.{List, [], _∷_, _++_}
+use mathlib.Core.List.{List, _++_}
 use Prim.Native.Nat.{ℕ, _+_, _*_, _≤_}
 use native.Mathlib.Omega.{arith}
 use lib.Dec.{leb}
-use lib.ListN.{length, drop}
-use Rattle.std.proofs.shelf.Lists.{length-take, length-drop}
+use lib.ListN.{length}
 use Rattle.std.specs.declared.option.Option.{Option}
 use Rattle.std.specs.declared.option.Option.the-variants.{Some, None}
 use Rattle.faults.specs.declared.Fault.{Fault}
@@ -16,9 +15,10 @@ use Rattle.faults.specs.declared.Section.the-variants.{C, D}
 use Rattle.std.proofs.shelf.Tests.{le-leb}
 use Rattle.faults.specs.Faults.{faultOf}
 use Rattle.records.specs.Tables.{movers}
+use Rattle.records.proofs.Words.{part-length}
 use Rattle.sheet.specs.Layout.{switches, flows, flowsFrom, endsFrom, rowFrom, tableAt, oldFrom, newFrom, neededFrom, oldTable, newTable, moversOf}
 use Rattle.sheet.specs.Pieces.{Piece, wrong, orLater, firstWrong, sectionA, sectionB, tableSection, neededSection, noMore, fewMovers, sheetPieces, firstFault, failing, testOf}
-use Rattle.sheet.proofs.Firsts.{first-append}
+use Rattle.sheet.proofs.Firsts.{first-append, closing, from-b, from-c, from-d, from-e}
 
 -- the reader's bytes xs are the sheet's, bs, and it stands at the place `to`
 pub record Went (bs xs : List ℕ) (at to : ℕ) : Type 0 where
@@ -46,7 +46,7 @@ pub table-of : {bs xs ts : List ℕ} {at p : ℕ} → Went bs xs at p → ts ≡
 table-of {bs} {xs} {ts} {at} w h = h ∙ ap (λ x. tableAt x at) (w .same) ∙ ap (tableAt bs) (w .place)
 
 pub table-size : (bs : List ℕ) (p : ℕ) → rowFrom bs p (switches bs) ≤ length bs → length (tableAt bs p) ≡ switches bs * flows bs
-table-size bs p h = length-take (switches bs * flows bs) (drop (p + 1) bs) ∙ omega (arith, length-drop (p + 1) bs)
+table-size bs p h = part-length bs (p + 1) (switches bs * flows bs) h
 
 pub table-whole : (bs ts xs : List ℕ) (p at n f : ℕ) → ts ≡ tableAt bs p → Went bs xs at (rowFrom bs p (switches bs)) → at ≤ length xs → n ≡ switches bs → f ≡ flows bs → n * f ≤ length ts
 table-whole bs ts xs p at n f t w inside en ef =
@@ -79,57 +79,42 @@ module _ (bs : List ℕ) where
   abbrev Clears : List Piece → Type 0
   Clears ps = None ≡ firstWrong (length bs) ps
 
-  abbrev last-two : List Piece
-  last-two = noMore bs ∷ (fewMovers bs ∷ [])
-
-  abbrev from-e : List Piece
-  from-e = neededSection bs (neededFrom bs) ++ last-two
-
-  abbrev from-d : List Piece
-  from-d = tableSection bs D (newFrom bs) ++ from-e
-
-  abbrev from-c : List Piece
-  from-c = tableSection bs C (oldFrom bs) ++ from-d
-
-  abbrev from-b : List Piece
-  from-b = sectionB bs ++ from-c
-
   pub fault-a : (e : Fault) → Fails e (sectionA bs) → Some e ≡ firstFault bs
   unfolding sheetPieces
-  fault-a e h = hit (length bs) (sectionA bs) from-b e h
+  fault-a e h = hit (length bs) (sectionA bs) (from-b bs) e h
 
   module _ (a : Clears (sectionA bs)) where
-    after-a : firstFault bs ≡ firstWrong (length bs) from-b
+    after-a : firstFault bs ≡ firstWrong (length bs) (from-b bs)
     unfolding sheetPieces
-    after-a = past (length bs) (sectionA bs) from-b a
+    after-a = past (length bs) (sectionA bs) (from-b bs) a
 
     pub fault-b : (e : Fault) → Fails e (sectionB bs) → Some e ≡ firstFault bs
-    fault-b e h = hit (length bs) (sectionB bs) from-c e h ∙ sym after-a
+    fault-b e h = hit (length bs) (sectionB bs) (from-c bs) e h ∙ sym after-a
 
     module _ (b : Clears (sectionB bs)) where
-      after-b : firstFault bs ≡ firstWrong (length bs) from-c
-      after-b = after-a ∙ past (length bs) (sectionB bs) from-c b
+      after-b : firstFault bs ≡ firstWrong (length bs) (from-c bs)
+      after-b = after-a ∙ past (length bs) (sectionB bs) (from-c bs) b
 
       pub fault-c : (e : Fault) → Fails e (tableSection bs C (oldFrom bs)) → Some e ≡ firstFault bs
-      fault-c e h = hit (length bs) (tableSection bs C (oldFrom bs)) from-d e h ∙ sym after-b
+      fault-c e h = hit (length bs) (tableSection bs C (oldFrom bs)) (from-d bs) e h ∙ sym after-b
 
       module _ (c : Clears (tableSection bs C (oldFrom bs))) where
-        after-c : firstFault bs ≡ firstWrong (length bs) from-d
-        after-c = after-b ∙ past (length bs) (tableSection bs C (oldFrom bs)) from-d c
+        after-c : firstFault bs ≡ firstWrong (length bs) (from-d bs)
+        after-c = after-b ∙ past (length bs) (tableSection bs C (oldFrom bs)) (from-d bs) c
 
         pub fault-d : (e : Fault) → Fails e (tableSection bs D (newFrom bs)) → Some e ≡ firstFault bs
-        fault-d e h = hit (length bs) (tableSection bs D (newFrom bs)) from-e e h ∙ sym after-c
+        fault-d e h = hit (length bs) (tableSection bs D (newFrom bs)) (from-e bs) e h ∙ sym after-c
 
         module _ (d : Clears (tableSection bs D (newFrom bs))) where
-          after-d : firstFault bs ≡ firstWrong (length bs) from-e
-          after-d = after-c ∙ past (length bs) (tableSection bs D (newFrom bs)) from-e d
+          after-d : firstFault bs ≡ firstWrong (length bs) (from-e bs)
+          after-d = after-c ∙ past (length bs) (tableSection bs D (newFrom bs)) (from-e bs) d
 
           pub fault-e : (x : Fault) → Fails x (neededSection bs (neededFrom bs)) → Some x ≡ firstFault bs
-          fault-e x h = hit (length bs) (neededSection bs (neededFrom bs)) last-two x h ∙ sym after-d
+          fault-e x h = hit (length bs) (neededSection bs (neededFrom bs)) (closing bs) x h ∙ sym after-d
 
           module _ (e : Clears (neededSection bs (neededFrom bs))) where
             after-e : firstFault bs ≡ orLater (wrong (length bs) (noMore bs)) (orLater (wrong (length bs) (fewMovers bs)) None)
-            after-e = after-d ∙ past (length bs) (neededSection bs (neededFrom bs)) last-two e
+            after-e = after-d ∙ past (length bs) (neededSection bs (neededFrom bs)) (closing bs) e
 
             pub fault-more : (x : Fault) → Some x ≡ wrong (length bs) (noMore bs) → Some x ≡ firstFault bs
             fault-more x h = ap (λ o. orLater o (orLater (wrong (length bs) (fewMovers bs)) None)) h ∙ sym after-e

@@ -1,14 +1,22 @@
+use mathlib.Core.List.{List}
+use Prim.Native.Nat.{ℕ}
 use mathlib.Core.Path.{_≡_, ap, subst, _∙_}
 use native.Mathlib.Omega.{arith}
+use lib.Dec.{leb}
 use lib.ListN.{length}
+use Rattle.std.specs.declared.option.Option.{Option}
 use Rattle.std.specs.declared.option.Option.the-variants.{Some, None}
 use Rattle.std.proofs.shelf.Results.{err-from-errBy}
+use Rattle.faults.specs.declared.Fault.{Fault}
+use Rattle.faults.specs.declared.FaultKind.the-variants.{TooManyMovers}
 use Rattle.faults.specs.declared.Section.the-variants.{C, D}
-use Rattle.sheet.specs.Layout.{flows, flowsFrom, oldFrom, newFrom, neededFrom}
-use Rattle.sheet.specs.Pieces.{wrong, noMore}
+use Rattle.records.specs.Tables.{movers}
+use Rattle.sheet.specs.Layout.{switches, flows, flowsFrom, oldFrom, newFrom, oldTable, newTable, neededFrom, moversOf}
+use Rattle.sheet.specs.Pieces.{wrong, firstWrong, failing, testOf, sectionA, sectionB, tableSection, neededSection, noMore, firstFault}
 use Rattle.sheet.specs.Reads.{sheetBytes}
 use Rattle.sheet.proofs.Wholes.{Went, went-b, went-table, told-b, told-table, told-needed, told-movers, same-movers, table-of, table-whole, fault-a, fault-b, fault-c, fault-d, fault-e, fault-more, fault-last}
 use Rattle.sheet.proofs.reader.whole.read_numbers.Needs as need
+use Rattle.sheet.proofs.reader.whole.read_numbers.Needs.{In-Continue-needed}
 
 pub returns-in-Break-n : need.returns-in-Break-n
 returns-in-Break-n c =
@@ -68,81 +76,90 @@ returns-in-Break-needed c =
     let x = c .in-Break-needed .field-0 .0 in
     rw (p .1, p .2) record { tells = fault-e bs (a .tells) (told-b None wa (b .tells)) (told-table C None wb (o .tells)) (told-table D None wc (d .tells)) x (told-needed (Some x) wd (t .tells)); counts = tt; moving = tt }
 
-pub returns-in-Break-no-more : need.returns-in-Break-no-more
-returns-in-Break-no-more c =
+-- what the five sections have told and where they have left the reader, for the exits after them
+record Sections (bs : List ℕ) (c : need.In-Continue-needed) : Type 0 where
+  in-a : None ≡ firstWrong (length bs) (sectionA bs)
+  in-b : None ≡ firstWrong (length bs) (sectionB bs)
+  in-c : None ≡ firstWrong (length bs) (tableSection bs C (oldFrom bs))
+  in-d : None ≡ firstWrong (length bs) (tableSection bs D (newFrom bs))
+  in-e : None ≡ firstWrong (length bs) (neededSection bs (neededFrom bs))
+  at-d : Went bs (sheetBytes (c .table .last .self)) (c .table .last .self .at) (newFrom bs)
+  at-e : Went bs (sheetBytes (c .table-2 .last .self)) (c .table-2 .last .self .at) (neededFrom bs)
+  same : sheetBytes (c .needed .last .self) ≡ bs
+  n-is : c .in-Continue-n .n ≡ switches bs
+  f-is : c .in-Continue-f .f ≡ flows bs
+  old-is : c .in-Continue-old .old .now ≡ oldTable bs
+  new-is : c .in-Continue-new .new .now ≡ newTable bs
+
+sections : (c : need.In-Continue-needed) → Sections (c .args .sheet .now) c
+sections c =
     let bs = c .args .sheet .now in
     let a = c .in-Continue-n .ensures tt in
-    let wa : Went bs (sheetBytes (c .section-a .last .self)) (c .section-a .last .self .at) (flowsFrom bs) = record { same = a .kept; place = a .goes .0 } in
     let b = c .in-Continue-f .ensures tt in
-    let wb : Went bs (sheetBytes (c .section-b .last .self)) (c .section-b .last .self .at) (oldFrom bs) = went-b wa (b .kept) (b .goes .0) in
     let o = c .in-Continue-old .ensures tt in
-    let wc : Went bs (sheetBytes (c .table .last .self)) (c .table .last .self .at) (newFrom bs) = went-table wb (o .kept) (o .goes .0) in
     let d = c .in-Continue-new .ensures tt in
-    let wd : Went bs (sheetBytes (c .table-2 .last .self)) (c .table-2 .last .self .at) (neededFrom bs) = went-table wc (d .kept) (d .goes .0) in
     let n = c .in-Continue-needed .ensures tt in
-    let t = c .in-Break-no-more .ensures tt in
+    let wa : Went bs (sheetBytes (c .section-a .last .self)) (c .section-a .last .self .at) (flowsFrom bs) = record { same = a .kept; place = a .goes .0 } in
+    let wb : Went bs (sheetBytes (c .section-b .last .self)) (c .section-b .last .self .at) (oldFrom bs) = went-b wa (b .kept) (b .goes .0) in
+    let wc : Went bs (sheetBytes (c .table .last .self)) (c .table .last .self .at) (newFrom bs) = went-table wb (o .kept) (o .goes .0) in
+    let wd : Went bs (sheetBytes (c .table-2 .last .self)) (c .table-2 .last .self .at) (neededFrom bs) = went-table wc (d .kept) (d .goes .0) in
+    record {
+      in-a = a .tells;
+      in-b = told-b None wa (b .tells);
+      in-c = told-table C None wb (o .tells);
+      in-d = told-table D None wc (d .tells);
+      in-e = told-needed None wd (n .tells);
+      at-d = wc;
+      at-e = wd;
+      same = n .kept ∙ wd .same;
+      n-is = a .goes .1;
+      f-is = b .goes .1 ∙ ap flows (wa .same);
+      old-is = table-of wb (o .goes .1);
+      new-is = table-of wc (d .goes .1);
+    }
+
+-- the movers of the rows that were read are those of the sheet
+moving-is : (c : need.In-Continue-needed) → movers (c .in-Continue-n .n) (c .in-Continue-f .f) (c .in-Continue-old .old .now) (c .in-Continue-new .new .now) ≡ moversOf (c .args .sheet .now)
+moving-is c =
+    let s = sections c in
+    same-movers (c .args .sheet .now) (c .in-Continue-n .n) (c .in-Continue-f .f) (c .in-Continue-old .old .now) (c .in-Continue-new .new .now) (s .n-is) (s .f-is) (s .old-is) (s .new-is)
+
+pub returns-in-Break-no-more : need.returns-in-Break-no-more
+returns-in-Break-no-more c =
+    let s = sections (need.at·returns-in-Break-no-more c .In-Continue-needed) in
     let p = err-from-errBy (c .from-residual-in-Break-no-more .result) (c .from-residual-in-Break-no-more .ensures .1) in
     let x = c .in-Break-no-more .field-0 .0 in
-    rw (p .1, p .2) record { tells = fault-more bs (a .tells) (told-b None wa (b .tells)) (told-table C None wb (o .tells)) (told-table D None wc (d .tells)) (told-needed None wd (n .tells)) x (subst (λ y. Some x ≡ wrong (length y) (noMore y)) (n .kept ∙ wd .same) t); counts = tt; moving = tt }
+    let t = subst (λ y. Some x ≡ wrong (length y) (noMore y)) (s .same) (c .in-Break-no-more .ensures tt) in
+    rw (p .1, p .2) record { tells = fault-more (c .args .sheet .now) (s .in-a) (s .in-b) (s .in-c) (s .in-d) (s .in-e) x t; counts = tt; moving = tt }
 
 pub few-movers-requires : need.few-movers-requires
 few-movers-requires c κs =
     let bs = c .args .sheet .now in
-    let a = c .in-Continue-n .ensures tt in
-    let wa : Went bs (sheetBytes (c .section-a .last .self)) (c .section-a .last .self .at) (flowsFrom bs) = record { same = a .kept; place = a .goes .0 } in
-    let b = c .in-Continue-f .ensures tt in
-    let wb : Went bs (sheetBytes (c .section-b .last .self)) (c .section-b .last .self .at) (oldFrom bs) = went-b wa (b .kept) (b .goes .0) in
-    let o = c .in-Continue-old .ensures tt in
-    let wc : Went bs (sheetBytes (c .table .last .self)) (c .table .last .self .at) (newFrom bs) = went-table wb (o .kept) (o .goes .0) in
-    let d = c .in-Continue-new .ensures tt in
-    let wd : Went bs (sheetBytes (c .table-2 .last .self)) (c .table-2 .last .self .at) (neededFrom bs) = went-table wc (d .kept) (d .goes .0) in
-    let ef : c .in-Continue-f .f ≡ flows bs = b .goes .1 ∙ ap flows (wa .same) in
+    let s = sections (need.at·few-movers-requires c .In-Continue-needed) in
     record {
-      few = a .few;
-      in-old = table-whole bs (c .in-Continue-old .old .now) (sheetBytes (c .table .last .self)) (oldFrom bs) (c .table .last .self .at) (c .in-Continue-n .n) (c .in-Continue-f .f) (table-of wb (o .goes .1)) wc (c .table .last .self .inside) (a .goes .1) ef;
-      in-new = table-whole bs (c .in-Continue-new .new .now) (sheetBytes (c .table-2 .last .self)) (newFrom bs) (c .table-2 .last .self .at) (c .in-Continue-n .n) (c .in-Continue-f .f) (table-of wc (d .goes .1)) wd (c .table-2 .last .self .inside) (a .goes .1) ef;
+      few = c .in-Continue-n .ensures tt .few;
+      in-old = table-whole bs (c .in-Continue-old .old .now) (sheetBytes (c .table .last .self)) (oldFrom bs) (c .table .last .self .at) (c .in-Continue-n .n) (c .in-Continue-f .f) (s .old-is) (s .at-d) (c .table .last .self .inside) (s .n-is) (s .f-is);
+      in-new = table-whole bs (c .in-Continue-new .new .now) (sheetBytes (c .table-2 .last .self)) (newFrom bs) (c .table-2 .last .self .at) (c .in-Continue-n .n) (c .in-Continue-f .f) (s .new-is) (s .at-e) (c .table-2 .last .self .inside) (s .n-is) (s .f-is);
     }
+
+-- what the last test tells, where no byte follows
+closes : (c : need.In-Continue-needed) (o : Option Fault) → None ≡ wrong (length (sheetBytes (c .needed .last .self))) (noMore (sheetBytes (c .needed .last .self))) → o ≡ failing D (c .table .last .self .at) (testOf TooManyMovers (leb (length (movers (c .in-Continue-n .n) (c .in-Continue-f .f) (c .in-Continue-old .old .now) (c .in-Continue-new .new .now))) 16)) → o ≡ firstFault (c .args .sheet .now)
+closes c o none t =
+    let bs = c .args .sheet .now in
+    let s = sections c in
+    let end = subst (λ y. None ≡ wrong (length y) (noMore y)) (s .same) none in
+    fault-last bs (s .in-a) (s .in-b) (s .in-c) (s .in-d) (s .in-e) o end
+    (told-movers bs (c .table .last .self .at) _ o (moving-is c) (s .at-d .place) (omega (arith, s .at-d .place, ap length (s .at-d .same), c .table .last .self .inside)) t)
 
 pub returns-in-Break-movers : need.returns-in-Break-movers
 returns-in-Break-movers c =
-    let bs = c .args .sheet .now in
-    let a = c .in-Continue-n .ensures tt in
-    let wa : Went bs (sheetBytes (c .section-a .last .self)) (c .section-a .last .self .at) (flowsFrom bs) = record { same = a .kept; place = a .goes .0 } in
-    let b = c .in-Continue-f .ensures tt in
-    let wb : Went bs (sheetBytes (c .section-b .last .self)) (c .section-b .last .self .at) (oldFrom bs) = went-b wa (b .kept) (b .goes .0) in
-    let o = c .in-Continue-old .ensures tt in
-    let wc : Went bs (sheetBytes (c .table .last .self)) (c .table .last .self .at) (newFrom bs) = went-table wb (o .kept) (o .goes .0) in
-    let d = c .in-Continue-new .ensures tt in
-    let wd : Went bs (sheetBytes (c .table-2 .last .self)) (c .table-2 .last .self .at) (neededFrom bs) = went-table wc (d .kept) (d .goes .0) in
-    let n = c .in-Continue-needed .ensures tt in
-    let ef : c .in-Continue-f .f ≡ flows bs = b .goes .1 ∙ ap flows (wa .same) in
-    let old = table-of wb (o .goes .1) in
-    let new = table-of wc (d .goes .1) in
-    let end : None ≡ wrong (length bs) (noMore bs) = subst (λ y. None ≡ wrong (length y) (noMore y)) (n .kept ∙ wd .same) (c .in-Continue-no-more .ensures tt) in
     let p = err-from-errBy (c .from-residual-in-Break-movers .result) (c .from-residual-in-Break-movers .ensures .1) in
     let x = c .in-Break-movers .field-0 .0 in
-    let t = c .in-Break-movers .ensures tt in
-    let moving = same-movers bs (c .in-Continue-n .n) (c .in-Continue-f .f) (c .in-Continue-old .old .now) (c .in-Continue-new .new .now) (a .goes .1) ef old new in
-    let h = told-movers bs (c .table .last .self .at) _ (Some x) moving (wc .place) (omega (arith, wc .place, ap length (wc .same), c .table .last .self .inside)) (t .tells) in
-    rw (p .1, p .2) record { tells = fault-last bs (a .tells) (told-b None wa (b .tells)) (told-table C None wb (o .tells)) (told-table D None wc (d .tells)) (told-needed None wd (n .tells)) (Some x) end h; counts = tt; moving = tt }
+    rw (p .1, p .2) record { tells = closes (need.at·returns-in-Break-movers c .In-Continue-needed) (Some x) (c .in-Continue-no-more .ensures tt) (c .in-Break-movers .ensures tt .tells); counts = tt; moving = tt }
 
 pub returns : need.returns
 returns c =
-    let bs = c .args .sheet .now in
-    let a = c .in-Continue-n .ensures tt in
-    let wa : Went bs (sheetBytes (c .section-a .last .self)) (c .section-a .last .self .at) (flowsFrom bs) = record { same = a .kept; place = a .goes .0 } in
-    let b = c .in-Continue-f .ensures tt in
-    let wb : Went bs (sheetBytes (c .section-b .last .self)) (c .section-b .last .self .at) (oldFrom bs) = went-b wa (b .kept) (b .goes .0) in
-    let o = c .in-Continue-old .ensures tt in
-    let wc : Went bs (sheetBytes (c .table .last .self)) (c .table .last .self .at) (newFrom bs) = went-table wb (o .kept) (o .goes .0) in
-    let d = c .in-Continue-new .ensures tt in
-    let wd : Went bs (sheetBytes (c .table-2 .last .self)) (c .table-2 .last .self .at) (neededFrom bs) = went-table wc (d .kept) (d .goes .0) in
-    let n = c .in-Continue-needed .ensures tt in
-    let ef : c .in-Continue-f .f ≡ flows bs = b .goes .1 ∙ ap flows (wa .same) in
-    let old = table-of wb (o .goes .1) in
-    let new = table-of wc (d .goes .1) in
-    let end : None ≡ wrong (length bs) (noMore bs) = subst (λ y. None ≡ wrong (length y) (noMore y)) (n .kept ∙ wd .same) (c .in-Continue-no-more .ensures tt) in
+    let v = need.at·returns c .In-Continue-needed in
+    let s = sections v in
     let t = c .in-Continue-movers .ensures tt in
-    let moving = same-movers bs (c .in-Continue-n .n) (c .in-Continue-f .f) (c .in-Continue-old .old .now) (c .in-Continue-new .new .now) (a .goes .1) ef old new in
-    let h = told-movers bs (c .table .last .self .at) _ None moving (wc .place) (omega (arith, wc .place, ap length (wc .same), c .table .last .self .inside)) (t .tells) in
-    record { tells = fault-last bs (a .tells) (told-b None wa (b .tells)) (told-table C None wb (o .tells)) (told-table D None wc (d .tells)) (told-needed None wd (n .tells)) None end h; counts = (a .goes .1, ef); moving = t .listed ∙ moving }
+    record { tells = closes v None (c .in-Continue-no-more .ensures tt) (t .tells); counts = (s .n-is, s .f-is); moving = t .listed ∙ moving-is v }
