@@ -1,5 +1,5 @@
 #!/usr/bin/env python3
-"""An independent reading of docs/SHEET.md, for the stored expected outputs.
+"""A separate reading of docs/SHEET.md, for the stored expected outputs.
 
 It shares nothing with the Rattle code. It makes the sheets of crates/sheets/data
 that are ours, and writes or compares the expected output of crates/sheets.
