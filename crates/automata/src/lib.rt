@@ -1,4 +1,6 @@
 // The policy of a nondeterministic automaton that reads lists of switches.
+#![tactic(auto)]
+
 ghost use Rattle.std.specs.Prelude.{◌≡◌, ◌^◌, ◌<◌, List};
 ghost use Rattle.automata.specs.declared.Transition.{Transition as TransitionT};
 ghost use Rattle.automata.specs.Marks.{is_state, is_taken, with_reached, next_states, some_in};

@@ -1,4 +1,6 @@
 // Examples of sets, sheets and cases, each proved and then run.
+#![tactic(auto)]
+
 #[cfg(test)]
 mod tests {
     use cases::{Case, read};

@@ -1,4 +1,6 @@
 // A case: a lawful sheet with its numbers. It holds no copy of the sheet.
+#![tactic(auto)]
+
 ghost use Rattle.std.specs.Prelude.{◌≡◌, ◌+◌, ◌*◌, ◌<◌, ◌≤◌, true, length, IfSome, is_ok, Some, Decides, MatchResult};
 ghost use Rattle.sets.specs.Sets.{MembersBelow, Exactly, members};
 ghost use Rattle.faults.specs.declared.Fault.{Fault as FaultT};

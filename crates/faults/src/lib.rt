@@ -1,4 +1,6 @@
 // What is wrong with a sheet: the kind of fault, the section and the place.
+#![tactic(auto)]
+
 ghost use Rattle.std.specs.Prelude.{◌≡◌};
 ghost use Rattle.faults.specs.Faults.{number_of, letter_of};
 

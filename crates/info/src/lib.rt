@@ -1,4 +1,6 @@
 // What there is to tell of a sheet, as text.
+#![tactic(auto)]
+
 ghost use Rattle.std.specs.Prelude.{◌≡◌, ℕ, List, ◌++◌, take, IfOk, string_bytes, codes, decimal, OnOk};
 ghost use Rattle.sets.specs.Sets.{members};
 ghost use Rattle.info.specs.Texts.{refused_text, movers_text, summary_text, info_text, enough_bytes};

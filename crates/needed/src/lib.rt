@@ -1,4 +1,6 @@
 // The policy that has each flow meet certain switches.
+#![tactic(auto)]
+
 ghost use Rattle.std.specs.Prelude.{◌≡◌, ◌==◌};
 ghost use Rattle.sheet.specs.Layout.{flows as flows_of, needed_of};
 ghost use Rattle.needed.specs.Marks.{missing_at_first, less_switch};

@@ -1,4 +1,6 @@
 // Policies: which lists of switches a flow may meet. A list is judged switch by switch, by a mark that is handed on.
+#![tactic(auto)]
+
 ghost use Rattle.std.specs.Prelude.{◌≡◌, ℕ, Bool, true, ◌&&◌, List, Decides, fold};
 ghost use Rattle.policy.specs.Unmarked.{KeepsNoMark};
 ghost use Rattle.std.proofs.Common.{rules};

@@ -1,4 +1,6 @@
 // Examples of policies. First what judging says of each kind, in the words of its meaning, as it follows from the contract of `judge`; then tables of lists with the answer to each, proved and run.
+#![tactic(auto)]
+
 ghost use Rattle.std.specs.Prelude.{◌≡◌, true, Decides};
 ghost use Rattle.automata.specs.Runs.{Accepts};
 ghost use Rattle.needed.specs.Needs.{MeetsNeeds};

@@ -1,4 +1,6 @@
 // The tests of a sheet's single records, and the movers between two tables. Each function answers for every input.
+#![tactic(auto)]
+
 mod rules;
 mod tables;
 

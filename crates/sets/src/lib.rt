@@ -1,4 +1,6 @@
 // Sets of switches 0 to 63 as numbers of 64 bits. A switch is any byte: one of 64 or above is in no set, and cannot be put into one.
+#![tactic(auto)]
+
 ghost use Rattle.std.specs.Prelude.{◌≡◌, ◌<◌, ◌⊎◌, length, Decides, MatchOption, ◌≢◌};
 ghost use Rattle.sets.specs.Sets.{InSet, Exactly, PartOf, Disjoint, SameMembers, MembersBelow, Empty, Lowest, members};
 

@@ -1,4 +1,6 @@
 // Reads a sheet and judges it: its numbers, or its first fault.
+#![tactic(auto)]
+
 mod reader;
 mod tested;
 

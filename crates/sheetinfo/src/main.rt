@@ -1,4 +1,6 @@
 // Reads a sheet from standard input, and prints what it holds, or which fault it has and where.
+#![tactic(auto)]
+
 use info::{describe_start, enough};
 use std::io;
 use std::io::Read;

@@ -1,4 +1,6 @@
 // Judges stored sheets, each named by an argument, and prints the name and then what is told of the sheet. The argument `cut` has the next sheet judged at every length up to its own.
+#![tactic(auto)]
+
 use info::describe;
 use std::{env, fs};
 
