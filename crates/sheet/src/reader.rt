@@ -1,7 +1,7 @@
 // A sheet, and the place of the next byte to read. Reading goes by layers, each of which tells the first fault of what it reads: byte, record, section, sheet.
 ghost use Rattle.std.specs.Prelude.{◌≤◌, length};
 
-mod records;
+mod items;
 mod sections;
 pub mod whole;
 

@@ -4,11 +4,11 @@ use Rattle.std.proofs.lemmas.List.{take_all}
 use Rattle.records.proofs.Words.{below_more, word_fits, word_more}
 use Rattle.records.proofs.rules.big_endian.Goals as goal
 
-pub overflow-mul-m : goal.overflow-mul-m
-overflow-mul-m c = omega (arith, word_fits c.loop-b.b-index c.loop-b.m (omega arith) c.loop-b.invariant.1)
+pub overflow_mul-m : goal.overflow_mul-m
+overflow_mul-m c = omega (arith, word_fits c.loop-b.b-index c.loop-b.m (omega arith) c.loop-b.invariant.1)
 
-pub overflow-add-m : goal.overflow-add-m
-overflow-add-m c = omega (arith, word_fits c.loop-b.b-index c.loop-b.m (omega arith) c.loop-b.invariant.1)
+pub overflow_add-m : goal.overflow_add-m
+overflow_add-m c = omega (arith, word_fits c.loop-b.b-index c.loop-b.m (omega arith) c.loop-b.invariant.1)
 
 pub loop-b-preserved : goal.loop-b-preserved
 loop-b-preserved c = (

@@ -9,68 +9,68 @@ use Rattle.sheet.specs.Pieces.{wrong, first_wrong, failing, test_of, section_a, 
 use Rattle.sheet.specs.Reads.{sheet_bytes}
 use Rattle.sheet.proofs.Wholes.{Went, went_b, went_table, told_b, told_table, told_needed, told_movers, same_movers, table_of, table_whole, fault_a, fault_b, fault_c, fault_d, fault_e, fault_more, fault_last}
 use Rattle.sheet.proofs.reader.whole.read_numbers.Goals as goal
-use Rattle.sheet.proofs.reader.whole.read_numbers.Goals.{In-ok-needed}
+use Rattle.sheet.proofs.reader.whole.read_numbers.Goals.{In_ok-needed}
 
-pub returns-in-err-n : goal.returns-in-err-n
-returns-in-err-n c =
-    let t = c.in-err-n.ensures in
-    let p = err_from_is_err_and c.from-residual.result c.from-residual.ensures.1 in
-    rw (p.1, p.2) record { tells = fault_a c.args.sheet.now c.in-err-n.field-0.0 t.tells; counts = tt; moving = tt }
+pub returns-in_err-n : goal.returns-in_err-n
+returns-in_err-n c =
+    let t = c.in_err-n.ensures in
+    let p = err_from_is_err_and c.from_residual.result c.from_residual.ensures.1 in
+    rw (p.1, p.2) record { tells = fault_a c.args.sheet.now c.in_err-n.field-0.0 t.tells; counts = tt; moving = tt }
 
-pub returns-in-err-f : goal.returns-in-err-f
-returns-in-err-f c =
+pub returns-in_err-f : goal.returns-in_err-f
+returns-in_err-f c =
     let bs = c.args.sheet.now in
-    let a = c.in-ok-n.ensures in
-    let t = c.in-err-f.ensures in
-    let wa : Went bs (sheet_bytes c.section-a.new.self) c.section-a.new.self.at (flows_from bs) = record { same = a.kept; place = a.goes.0 } in
-    let p = err_from_is_err_and c.from-residual-in-err-f.result c.from-residual-in-err-f.ensures.1 in
-    let e = c.in-err-f.field-0.0 in
+    let a = c.in_ok-n.ensures in
+    let t = c.in_err-f.ensures in
+    let wa : Went bs (sheet_bytes c.section_a.new.self) c.section_a.new.self.at (flows_from bs) = record { same = a.kept; place = a.goes.0 } in
+    let p = err_from_is_err_and c.from_residual-in_err-f.result c.from_residual-in_err-f.ensures.1 in
+    let e = c.in_err-f.field-0.0 in
     rw (p.1, p.2) record { tells = fault_b bs a.tells e (told_b (Some e) wa t.tells); counts = tt; moving = tt }
 
-pub returns-in-err-old : goal.returns-in-err-old
-returns-in-err-old c =
+pub returns-in_err-old : goal.returns-in_err-old
+returns-in_err-old c =
     let bs = c.args.sheet.now in
-    let a = c.in-ok-n.ensures in
-    let wa : Went bs (sheet_bytes c.section-a.new.self) c.section-a.new.self.at (flows_from bs) = record { same = a.kept; place = a.goes.0 } in
-    let b = c.in-ok-f.ensures in
-    let wb : Went bs (sheet_bytes c.section-b.new.self) c.section-b.new.self.at (old_from bs) = went_b wa b.kept b.goes.0 in
-    let t = c.in-err-old.ensures in
-    let p = err_from_is_err_and c.from-residual-in-err-old.result c.from-residual-in-err-old.ensures.1 in
-    let x = c.in-err-old.field-0.0 in
+    let a = c.in_ok-n.ensures in
+    let wa : Went bs (sheet_bytes c.section_a.new.self) c.section_a.new.self.at (flows_from bs) = record { same = a.kept; place = a.goes.0 } in
+    let b = c.in_ok-f.ensures in
+    let wb : Went bs (sheet_bytes c.section_b.new.self) c.section_b.new.self.at (old_from bs) = went_b wa b.kept b.goes.0 in
+    let t = c.in_err-old.ensures in
+    let p = err_from_is_err_and c.from_residual-in_err-old.result c.from_residual-in_err-old.ensures.1 in
+    let x = c.in_err-old.field-0.0 in
     rw (p.1, p.2) record { tells = fault_c bs a.tells (told_b None wa b.tells) x (told_table C (Some x) wb t.tells); counts = tt; moving = tt }
 
-pub returns-in-err-new : goal.returns-in-err-new
-returns-in-err-new c =
+pub returns-in_err-new : goal.returns-in_err-new
+returns-in_err-new c =
     let bs = c.args.sheet.now in
-    let a = c.in-ok-n.ensures in
-    let wa : Went bs (sheet_bytes c.section-a.new.self) c.section-a.new.self.at (flows_from bs) = record { same = a.kept; place = a.goes.0 } in
-    let b = c.in-ok-f.ensures in
-    let wb : Went bs (sheet_bytes c.section-b.new.self) c.section-b.new.self.at (old_from bs) = went_b wa b.kept b.goes.0 in
-    let o = c.in-ok-old.ensures in
+    let a = c.in_ok-n.ensures in
+    let wa : Went bs (sheet_bytes c.section_a.new.self) c.section_a.new.self.at (flows_from bs) = record { same = a.kept; place = a.goes.0 } in
+    let b = c.in_ok-f.ensures in
+    let wb : Went bs (sheet_bytes c.section_b.new.self) c.section_b.new.self.at (old_from bs) = went_b wa b.kept b.goes.0 in
+    let o = c.in_ok-old.ensures in
     let wc : Went bs (sheet_bytes c.table.new.self) c.table.new.self.at (new_from bs) = went_table wb o.kept o.goes.0 in
-    let t = c.in-err-new.ensures in
-    let p = err_from_is_err_and c.from-residual-in-err-new.result c.from-residual-in-err-new.ensures.1 in
-    let x = c.in-err-new.field-0.0 in
+    let t = c.in_err-new.ensures in
+    let p = err_from_is_err_and c.from_residual-in_err-new.result c.from_residual-in_err-new.ensures.1 in
+    let x = c.in_err-new.field-0.0 in
     rw (p.1, p.2) record { tells = fault_d bs a.tells (told_b None wa b.tells) (told_table C None wb o.tells) x (told_table D (Some x) wc t.tells); counts = tt; moving = tt }
 
-pub returns-in-err-needed : goal.returns-in-err-needed
-returns-in-err-needed c =
+pub returns-in_err-needed : goal.returns-in_err-needed
+returns-in_err-needed c =
     let bs = c.args.sheet.now in
-    let a = c.in-ok-n.ensures in
-    let wa : Went bs (sheet_bytes c.section-a.new.self) c.section-a.new.self.at (flows_from bs) = record { same = a.kept; place = a.goes.0 } in
-    let b = c.in-ok-f.ensures in
-    let wb : Went bs (sheet_bytes c.section-b.new.self) c.section-b.new.self.at (old_from bs) = went_b wa b.kept b.goes.0 in
-    let o = c.in-ok-old.ensures in
+    let a = c.in_ok-n.ensures in
+    let wa : Went bs (sheet_bytes c.section_a.new.self) c.section_a.new.self.at (flows_from bs) = record { same = a.kept; place = a.goes.0 } in
+    let b = c.in_ok-f.ensures in
+    let wb : Went bs (sheet_bytes c.section_b.new.self) c.section_b.new.self.at (old_from bs) = went_b wa b.kept b.goes.0 in
+    let o = c.in_ok-old.ensures in
     let wc : Went bs (sheet_bytes c.table.new.self) c.table.new.self.at (new_from bs) = went_table wb o.kept o.goes.0 in
-    let d = c.in-ok-new.ensures in
+    let d = c.in_ok-new.ensures in
     let wd : Went bs (sheet_bytes c.table-2.new.self) c.table-2.new.self.at (needed_from bs) = went_table wc d.kept d.goes.0 in
-    let t = c.in-err-needed.ensures in
-    let p = err_from_is_err_and c.from-residual-in-err-needed.result c.from-residual-in-err-needed.ensures.1 in
-    let x = c.in-err-needed.field-0.0 in
+    let t = c.in_err-needed.ensures in
+    let p = err_from_is_err_and c.from_residual-in_err-needed.result c.from_residual-in_err-needed.ensures.1 in
+    let x = c.in_err-needed.field-0.0 in
     rw (p.1, p.2) record { tells = fault_e bs a.tells (told_b None wa b.tells) (told_table C None wb o.tells) (told_table D None wc d.tells) x (told_needed (Some x) wd t.tells); counts = tt; moving = tt }
 
 -- what the five sections have told and where they have left the reader, for the exits after them
-record Sections (bs : List ℕ) (c : goal.In-ok-needed) : Type 0 where
+record Sections (bs : List ℕ) (c : goal.In_ok-needed) : Type 0 where
   in_a : None ≡ first_wrong (length bs) (section_a bs)
   in_b : None ≡ first_wrong (length bs) (section_b bs)
   in_c : None ≡ first_wrong (length bs) (table_section bs C (old_from bs))
@@ -79,21 +79,21 @@ record Sections (bs : List ℕ) (c : goal.In-ok-needed) : Type 0 where
   at-d : Went bs (sheet_bytes c.table.new.self) c.table.new.self.at (new_from bs)
   at-e : Went bs (sheet_bytes c.table-2.new.self) c.table-2.new.self.at (needed_from bs)
   same : sheet_bytes c.needed.new.self ≡ bs
-  n-is : c.in-ok-n.n ≡ switches bs
-  f-is : c.in-ok-f.f ≡ flows bs
-  old-is : c.in-ok-old.old.now ≡ old_table bs
-  new_is : c.in-ok-new.new.now ≡ new_table bs
+  n-is : c.in_ok-n.n ≡ switches bs
+  f-is : c.in_ok-f.f ≡ flows bs
+  old-is : c.in_ok-old.old.now ≡ old_table bs
+  new_is : c.in_ok-new.new.now ≡ new_table bs
 
-sections : (c : goal.In-ok-needed) → Sections c.args.sheet.now c
+sections : (c : goal.In_ok-needed) → Sections c.args.sheet.now c
 sections c =
     let bs = c.args.sheet.now in
-    let a = c.in-ok-n.ensures in
-    let b = c.in-ok-f.ensures in
-    let o = c.in-ok-old.ensures in
-    let d = c.in-ok-new.ensures in
-    let n = c.in-ok-needed.ensures in
-    let wa : Went bs (sheet_bytes c.section-a.new.self) c.section-a.new.self.at (flows_from bs) = record { same = a.kept; place = a.goes.0 } in
-    let wb : Went bs (sheet_bytes c.section-b.new.self) c.section-b.new.self.at (old_from bs) = went_b wa b.kept b.goes.0 in
+    let a = c.in_ok-n.ensures in
+    let b = c.in_ok-f.ensures in
+    let o = c.in_ok-old.ensures in
+    let d = c.in_ok-new.ensures in
+    let n = c.in_ok-needed.ensures in
+    let wa : Went bs (sheet_bytes c.section_a.new.self) c.section_a.new.self.at (flows_from bs) = record { same = a.kept; place = a.goes.0 } in
+    let wb : Went bs (sheet_bytes c.section_b.new.self) c.section_b.new.self.at (old_from bs) = went_b wa b.kept b.goes.0 in
     let wc : Went bs (sheet_bytes c.table.new.self) c.table.new.self.at (new_from bs) = went_table wb o.kept o.goes.0 in
     let wd : Went bs (sheet_bytes c.table-2.new.self) c.table-2.new.self.at (needed_from bs) = went_table wc d.kept d.goes.0 in
     record {
@@ -112,31 +112,31 @@ sections c =
     }
 
 -- the movers of the rows that were read are those of the sheet
-moving-is : (c : goal.In-ok-needed) → movers c.in-ok-n.n c.in-ok-f.f c.in-ok-old.old.now c.in-ok-new.new.now ≡ movers_of c.args.sheet.now
+moving-is : (c : goal.In_ok-needed) → movers c.in_ok-n.n c.in_ok-f.f c.in_ok-old.old.now c.in_ok-new.new.now ≡ movers_of c.args.sheet.now
 moving-is c =
     let s = sections c in
-    same_movers c.args.sheet.now c.in-ok-n.n c.in-ok-f.f c.in-ok-old.old.now c.in-ok-new.new.now s.n-is s.f-is s.old-is s.new_is
+    same_movers c.args.sheet.now c.in_ok-n.n c.in_ok-f.f c.in_ok-old.old.now c.in_ok-new.new.now s.n-is s.f-is s.old-is s.new_is
 
-pub returns-in-err-no-more : goal.returns-in-err-no-more
-returns-in-err-no-more c =
-    let s = sections (goal.at.returns-in-err-no-more c).In-ok-needed in
-    let p = err_from_is_err_and c.from-residual-in-err-no-more.result c.from-residual-in-err-no-more.ensures.1 in
-    let x = c.in-err-no-more.field-0.0 in
-    let t = subst (λ y. Some x ≡ wrong (length y) (no_more y)) s.same c.in-err-no-more.ensures in
+pub returns-in_err-no_more : goal.returns-in_err-no_more
+returns-in_err-no_more c =
+    let s = sections (goal.at.returns-in_err-no_more c).In_ok-needed in
+    let p = err_from_is_err_and c.from_residual-in_err-no_more.result c.from_residual-in_err-no_more.ensures.1 in
+    let x = c.in_err-no_more.field-0.0 in
+    let t = subst (λ y. Some x ≡ wrong (length y) (no_more y)) s.same c.in_err-no_more.ensures in
     rw (p.1, p.2) record { tells = fault_more c.args.sheet.now s.in_a s.in_b s.in_c s.in_d s.in_e x t; counts = tt; moving = tt }
 
-pub few-movers-requires : goal.few-movers-requires
-few-movers-requires c =
+pub few_movers-requires : goal.few_movers-requires
+few_movers-requires c =
     let bs = c.args.sheet.now in
-    let s = sections (goal.at.few-movers-requires c).In-ok-needed in
+    let s = sections (goal.at.few_movers-requires c).In_ok-needed in
     record {
-      few = c.in-ok-n.ensures.few;
-      in_old = table_whole bs c.in-ok-old.old.now (sheet_bytes c.table.new.self) (old_from bs) c.table.new.self.at c.in-ok-n.n c.in-ok-f.f s.old-is s.at-d c.table.new.self.inside s.n-is s.f-is;
-      in_new = table_whole bs c.in-ok-new.new.now (sheet_bytes c.table-2.new.self) (new_from bs) c.table-2.new.self.at c.in-ok-n.n c.in-ok-f.f s.new_is s.at-e c.table-2.new.self.inside s.n-is s.f-is;
+      few = c.in_ok-n.ensures.few;
+      in_old = table_whole bs c.in_ok-old.old.now (sheet_bytes c.table.new.self) (old_from bs) c.table.new.self.at c.in_ok-n.n c.in_ok-f.f s.old-is s.at-d c.table.new.self.inside s.n-is s.f-is;
+      in_new = table_whole bs c.in_ok-new.new.now (sheet_bytes c.table-2.new.self) (new_from bs) c.table-2.new.self.at c.in_ok-n.n c.in_ok-f.f s.new_is s.at-e c.table-2.new.self.inside s.n-is s.f-is;
     }
 
 -- what the last test tells, where no byte follows
-closes : (c : goal.In-ok-needed) (o : Option Fault) → None ≡ wrong (length (sheet_bytes c.needed.new.self)) (no_more (sheet_bytes c.needed.new.self)) → o ≡ failing D c.table.new.self.at (test_of TooManyMovers (leb (length (movers c.in-ok-n.n c.in-ok-f.f c.in-ok-old.old.now c.in-ok-new.new.now)) 16)) → o ≡ first_fault c.args.sheet.now
+closes : (c : goal.In_ok-needed) (o : Option Fault) → None ≡ wrong (length (sheet_bytes c.needed.new.self)) (no_more (sheet_bytes c.needed.new.self)) → o ≡ failing D c.table.new.self.at (test_of TooManyMovers (leb (length (movers c.in_ok-n.n c.in_ok-f.f c.in_ok-old.old.now c.in_ok-new.new.now)) 16)) → o ≡ first_fault c.args.sheet.now
 closes c o none t =
     let bs = c.args.sheet.now in
     let s = sections c in
@@ -144,15 +144,15 @@ closes c o none t =
     fault_last bs s.in_a s.in_b s.in_c s.in_d s.in_e o end
     (told_movers bs c.table.new.self.at _ o (moving-is c) s.at-d.place (omega (arith, s.at-d.place, ap length s.at-d.same, c.table.new.self.inside)) t)
 
-pub returns-in-err-movers : goal.returns-in-err-movers
-returns-in-err-movers c =
-    let p = err_from_is_err_and c.from-residual-in-err-movers.result c.from-residual-in-err-movers.ensures.1 in
-    let x = c.in-err-movers.field-0.0 in
-    rw (p.1, p.2) record { tells = closes (goal.at.returns-in-err-movers c).In-ok-needed (Some x) c.in-ok-no-more.ensures c.in-err-movers.ensures.tells; counts = tt; moving = tt }
+pub returns-in_err-movers : goal.returns-in_err-movers
+returns-in_err-movers c =
+    let p = err_from_is_err_and c.from_residual-in_err-movers.result c.from_residual-in_err-movers.ensures.1 in
+    let x = c.in_err-movers.field-0.0 in
+    rw (p.1, p.2) record { tells = closes (goal.at.returns-in_err-movers c).In_ok-needed (Some x) c.in_ok-no_more.ensures c.in_err-movers.ensures.tells; counts = tt; moving = tt }
 
 pub returns : goal.returns
 returns c =
-    let v = (goal.at.returns c).In-ok-needed in
+    let v = (goal.at.returns c).In_ok-needed in
     let s = sections v in
-    let t = c.in-ok-movers.ensures in
-    record { tells = closes v None c.in-ok-no-more.ensures t.tells; counts = (s.n-is, s.f-is); moving = t.listed ∙ moving-is v }
+    let t = c.in_ok-movers.ensures in
+    record { tells = closes v None c.in_ok-no_more.ensures t.tells; counts = (s.n-is, s.f-is); moving = t.listed ∙ moving-is v }
