@@ -3,16 +3,16 @@ use Rattle.sheet.specs.Layout.{flows, ends_from, ingress_of}
 use Rattle.cases.proofs.Laws.{lawful_of, ends_inside, of_flow_lem}
 use Rattle.cases.proofs.Case.ingress.Goals as goal
 
-pub bounds-self-ends-from : goal.bounds-self-ends-from
-bounds-self-ends-from c =
+pub bounds-self-ends_from : goal.bounds-self-ends_from
+bounds-self-ends_from c =
     let v = c.args.self.now in
-    omega (arith, c.ends-from.ensures.value, ends_inside v.sheet.now v.lawful c.args.j (omega (arith, v.flowing)))
+    omega (arith, c.ends_from.ensures.value, ends_inside v.sheet.now v.lawful c.args.j (omega (arith, v.flowing)))
 
 pub returns-then-j-self : goal.returns-then-j-self
 returns-then-j-self c =
     let v = c.args.self.now in
-    let at : c.ends-from.result + 2 * c.args.j ≡ ends_from v.sheet.now c.args.j = omega (arith, c.ends-from.ensures.value) in
-    let e : get_or v.sheet.now (c.ends-from.result + 2 * c.args.j) 0 ≡ ingress_of v.sheet.now c.args.j = ap (λ p. get_or v.sheet.now p 0) at in
+    let at : c.ends_from.result + 2 * c.args.j ≡ ends_from v.sheet.now c.args.j = omega (arith, c.ends_from.ensures.value) in
+    let e : get_or v.sheet.now (c.ends_from.result + 2 * c.args.j) 0 ≡ ingress_of v.sheet.now c.args.j = ap (λ p. get_or v.sheet.now p 0) at in
     record {
       value = of_flow_lem v.flows (flows v.sheet.now) c.args.j _ (ingress_of v.sheet.now c.args.j) v.flowing (omega arith) e;
       inside = omega (arith, e, ((lawful_of v.sheet.now v.lawful).ends c.args.j (omega (arith, v.flowing))).0);

@@ -10,11 +10,11 @@ pub returns-then-j-self : goal.returns-then-j-self
 returns-then-j-self c =
     let v = c.args.self.now in
     let bs = v.sheet.now in
-    let place = c.needed-from.result + 8 * c.args.j in
-    let at : place ≡ mask_from (needed_from bs) c.args.j = omega (arith, c.needed-from.ensures.value) in
+    let place = c.needed_from.result + 8 * c.args.j in
+    let at : place ≡ mask_from (needed_from bs) c.args.j = omega (arith, c.needed_from.ensures.value) in
     let inside = needed_inside bs v.lawful c.args.j (omega (arith, v.flowing)) in
-    let e : c.mask-at.result ≡ Some (needed_of bs c.args.j) =
-    c.mask-at.ensures ∙ ap (λ b. cond b (Some (mask_at bs place)) None) (le-leb (place + 8) (length bs) (omega (arith, at, inside))) ∙ ap (λ p. Some (mask_at bs p)) at in
+    let e : c.mask_at.result ≡ Some (needed_of bs c.args.j) =
+    c.mask_at.ensures ∙ ap (λ b. cond b (Some (mask_at bs place)) None) (le-leb (place + 8) (length bs) (omega (arith, at, inside))) ∙ ap (λ p. Some (mask_at bs p)) at in
     record {
       value = e ∙ of_flow_lem v.flows (flows bs) c.args.j (needed_of bs c.args.j) (needed_of bs c.args.j) v.flowing (omega arith) refl;
       inside = subst (λ o. IfSome o (MembersBelow (switches bs))) (sym e) (λ t h. (lawful_of bs v.lawful).needs c.args.j t (omega (arith, v.flowing)) h);

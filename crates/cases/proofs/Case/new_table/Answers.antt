@@ -8,11 +8,11 @@ use Rattle.cases.proofs.Case.new_table.Goals as goal
 pub table-requires : goal.table-requires
 table-requires c =
     let v = c.args.self.now in
-    omega (arith, c.new-from.ensures.value, new_inside v.sheet.now v.lawful)
+    omega (arith, c.new_from.ensures.value, new_inside v.sheet.now v.lawful)
 
 pub returns : goal.returns
 returns c =
     let v = c.args.self.now in
     let bs = v.sheet.now in
-    let same : c.table.result.now ≡ new_table bs = c.table.ensures.value ∙ ap (λ p. bytes_at bs p (switches bs * flows bs)) c.new-from.ensures.value in
+    let same : c.table.result.now ≡ new_table bs = c.table.ensures.value ∙ ap (λ p. bytes_at bs p (switches bs * flows bs)) c.new_from.ensures.value in
     record { value = same; size = c.table.ensures.size; hops = subst (HopsInside (switches bs) (flows bs)) (sym same) (hops_inside bs v.lawful (new_table bs) (lawful_of bs v.lawful).new_hops) }

@@ -4,6 +4,6 @@ use Rattle.sheet.specs.Pieces.{section_a, section_b, table_section, needed_secti
 use Rattle.records.specs.Tables.{movers}
 use Rattle.cases.proofs.Case.smallest.Goals as goal
 
-pub invariant-of-result : goal.invariant-of-result
+pub invariant_of-result : goal.invariant_of-result
 unfolding members movers section_a section_b table_section needed_section sheet_pieces
-invariant-of-result c = (refl, (refl, (refl, (refl, tt))))
+invariant_of-result c = record { lawful = refl; numbered = refl; flowing = refl; listed = refl }
