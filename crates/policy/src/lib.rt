@@ -39,8 +39,8 @@ pub trait Policy {
 
 // Whether the policy allows the list of switches for the flow. A policy that keeps no mark of the flow has one answer to all lists: it allows every list or none.
 pub fn judge<P: Policy>(policy: &P, flow: u8, list: &[u8]) -> bool
-    ensures meant { Decides result (allowed policy.now flow list.now) }
-    ensures unmarked { KeepsNoMark (step policy.now) (start policy.now flow) → (xs : List ℕ) → Decides result (allowed policy.now flow xs) }
+    ensures meant { Decides result (P.allowed policy.now flow list.now) }
+    ensures unmarked { KeepsNoMark (P.step policy.now) (P.start policy.now flow) → (xs : List ℕ) → Decides result (P.allowed policy.now flow xs) }
 {
     let mut mark = policy.begin(flow);
     for switch in list {

@@ -1,7 +1,7 @@
 use Rattle.std.proofs.Common.{◌≡◌, fold, sym, ap, ◌∙◌, take_all}
 use Rattle.std.proofs.lemmas.List.Sums.{fold_more}
 use Rattle.std.proofs.lemmas.Bool.Decides.{Decides-at}
-use Rattle.policy.specs.Passing.{folded_still}
+use Rattle.policy.proofs.Passing.{folded_still}
 use Rattle.policy.proofs.judge.Goals as goal
 
 pub loop-switch-preserved : goal.loop-switch-preserved
