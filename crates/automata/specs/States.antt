@@ -1,4 +1,4 @@
--- A mark is the set of the states that runs can be in.
+-- The proof of a law, which has to stand here: nothing to believe. A mark is the set of the states that runs can be in.
 use Rattle.std.specs.Prelude.{◌≡◌, ℕ, zero, suc, ◌^◌, ◌<◌, true, ◌⊎◌, List, [], ◌∷◌, length, Decides, fold, bit_and, bit_or, slice_index, refl}
 use Rattle.std.proofs.Common.{sym, ap, ap₂, ◌∙◌, inl, inr, arith}
 use Rattle.std.proofs.lemmas.Bool.{cases_Bool, both_ways, cond-true, cond-false, eqb-false, ne_eqb, not-true, not_from_false}

@@ -1,4 +1,4 @@
--- What is still missing after a list of switches.
+-- The proof of a law, which has to stand here: nothing to believe. What is still missing after a list of switches.
 use Rattle.std.specs.Prelude.{◌≡◌, ℕ, true, List, [], ◌∷◌, Decides, fold, ◌==◌, nat_eq, nat_lt, slice_index, slice_index_or}
 use Rattle.std.proofs.Common.{sym, ap, ◌∙◌, inl, inr, arith}
 use Rattle.std.specs.List.{ContainsAt as Has}
