@@ -25,8 +25,8 @@ mod tests {
         assert_eq!(rt; case.exit(0), Some(3));
         assert_eq!(rt; case.needed(0), Some(0));
         assert_eq!(rt; case.movers(), 7);
-        assert!(rt; case.old_table() == b"\x01\x02\x03\xff");
-        assert!(rt; case.new_table() == b"\x02\x03\x01\xff");
+        assert!(rt; case.old_table() == b"\x01\x02\x03\xff".as_slice());
+        assert!(rt; case.new_table() == b"\x02\x03\x01\xff".as_slice());
     }
 
     #[test]
