@@ -20,7 +20,7 @@ pub struct Transition {
     pub to: u8,
 }
 
-// What an automaton has its transitions from. The automaton is generic in it, since the checker makes no proof of an impl that has both a law and a lifetime.
+// What an automaton has its transitions from. The automaton is generic in it, since an earlier checker made no proof of an impl with both a law and a lifetime.
 pub trait Transitions {
     ghost listed: { Self → List TransitionT };
 
