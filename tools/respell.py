@@ -73,6 +73,8 @@ def main():
         meets = [w for w in names if w != old and names[w] == new] + ([new] if new in tokens | library else [])
         if meets and new not in FALLS_TOGETHER:
             sys.exit(f"respell: {old} would become {new}, which stands for something else")
+    if not names:
+        sys.exit("respell: nothing to rename")
     swap = re.compile("|".join(r"(?<![\w'-])" + re.escape(w) + r"(?![\w'-])" for w in sorted(names, key=len, reverse=True)))
     changed = 0
     for path in antt + rust:

@@ -49,7 +49,7 @@ impl Policy for Needed {
 
     ghost step = { λ _ missing s. less_switch missing s };
 
-    ghost grants = { λ _ missing. (missing == 0) };
+    ghost grants = { λ _ missing. missing == 0 };
 
     ghost allowed = { λ p flow xs. MeetsNeeds p.masks flow xs };
 

@@ -76,12 +76,12 @@ record Sections (bs : List ℕ) (c : goal.In_ok-needed) : Type 0 where
   in_c : None ≡ first_wrong (length bs) (table_section bs C (old_from bs))
   in_d : None ≡ first_wrong (length bs) (table_section bs D (new_from bs))
   in_e : None ≡ first_wrong (length bs) (needed_section bs (needed_from bs))
-  at-d : Went bs (sheet_bytes c.table.new.self) c.table.new.self.at (new_from bs)
-  at-e : Went bs (sheet_bytes c.table-2.new.self) c.table-2.new.self.at (needed_from bs)
+  at_d : Went bs (sheet_bytes c.table.new.self) c.table.new.self.at (new_from bs)
+  at_e : Went bs (sheet_bytes c.table-2.new.self) c.table-2.new.self.at (needed_from bs)
   same : sheet_bytes c.needed.new.self ≡ bs
-  n-is : c.in_ok-n.n ≡ switches bs
-  f-is : c.in_ok-f.f ≡ flows bs
-  old-is : c.in_ok-old.old.now ≡ old_table bs
+  n_is : c.in_ok-n.n ≡ switches bs
+  f_is : c.in_ok-f.f ≡ flows bs
+  old_is : c.in_ok-old.old.now ≡ old_table bs
   new_is : c.in_ok-new.new.now ≡ new_table bs
 
 sections : (c : goal.In_ok-needed) → Sections c.args.sheet.now c
@@ -102,20 +102,20 @@ sections c =
       in_c = told_table C None wb o.tells;
       in_d = told_table D None wc d.tells;
       in_e = told_needed None wd n.tells;
-      at-d = wc;
-      at-e = wd;
+      at_d = wc;
+      at_e = wd;
       same = n.kept ∙ wd.same;
-      n-is = a.goes.1;
-      f-is = b.goes.1 ∙ ap flows wa.same;
-      old-is = table_of wb o.goes.1;
+      n_is = a.goes.1;
+      f_is = b.goes.1 ∙ ap flows wa.same;
+      old_is = table_of wb o.goes.1;
       new_is = table_of wc d.goes.1;
     }
 
 -- the movers of the rows that were read are those of the sheet
-moving-is : (c : goal.In_ok-needed) → movers c.in_ok-n.n c.in_ok-f.f c.in_ok-old.old.now c.in_ok-new.new.now ≡ movers_of c.args.sheet.now
-moving-is c =
+moving_is : (c : goal.In_ok-needed) → movers c.in_ok-n.n c.in_ok-f.f c.in_ok-old.old.now c.in_ok-new.new.now ≡ movers_of c.args.sheet.now
+moving_is c =
     let s = sections c in
-    same_movers c.args.sheet.now c.in_ok-n.n c.in_ok-f.f c.in_ok-old.old.now c.in_ok-new.new.now s.n-is s.f-is s.old-is s.new_is
+    same_movers c.args.sheet.now c.in_ok-n.n c.in_ok-f.f c.in_ok-old.old.now c.in_ok-new.new.now s.n_is s.f_is s.old_is s.new_is
 
 pub returns-in_err-no_more : goal.returns-in_err-no_more
 returns-in_err-no_more c =
@@ -131,8 +131,8 @@ few_movers-requires c =
     let s = sections (goal.at.few_movers-requires c).In_ok-needed in
     record {
       few = c.in_ok-n.ensures.few;
-      in_old = table_whole bs c.in_ok-old.old.now (sheet_bytes c.table.new.self) (old_from bs) c.table.new.self.at c.in_ok-n.n c.in_ok-f.f s.old-is s.at-d c.table.new.self.inside s.n-is s.f-is;
-      in_new = table_whole bs c.in_ok-new.new.now (sheet_bytes c.table-2.new.self) (new_from bs) c.table-2.new.self.at c.in_ok-n.n c.in_ok-f.f s.new_is s.at-e c.table-2.new.self.inside s.n-is s.f-is;
+      in_old = table_whole bs c.in_ok-old.old.now (sheet_bytes c.table.new.self) (old_from bs) c.table.new.self.at c.in_ok-n.n c.in_ok-f.f s.old_is s.at_d c.table.new.self.inside s.n_is s.f_is;
+      in_new = table_whole bs c.in_ok-new.new.now (sheet_bytes c.table-2.new.self) (new_from bs) c.table-2.new.self.at c.in_ok-n.n c.in_ok-f.f s.new_is s.at_e c.table-2.new.self.inside s.n_is s.f_is;
     }
 
 -- what the last test tells, where no byte follows
@@ -142,7 +142,7 @@ closes c o none t =
     let s = sections c in
     let end = subst (λ y. None ≡ wrong (length y) (no_more y)) s.same none in
     fault_last bs s.in_a s.in_b s.in_c s.in_d s.in_e o end
-    (told_movers bs c.table.new.self.at _ o (moving-is c) s.at-d.place (omega (arith, s.at-d.place, ap length s.at-d.same, c.table.new.self.inside)) t)
+    (told_movers bs c.table.new.self.at _ o (moving_is c) s.at_d.place (omega (arith, s.at_d.place, ap length s.at_d.same, c.table.new.self.inside)) t)
 
 pub returns-in_err-movers : goal.returns-in_err-movers
 returns-in_err-movers c =
@@ -155,4 +155,4 @@ returns c =
     let v = (goal.at.returns c).In_ok-needed in
     let s = sections v in
     let t = c.in_ok-movers.ensures in
-    record { tells = closes v None c.in_ok-no_more.ensures t.tells; counts = (s.n-is, s.f-is); moving = t.listed ∙ moving-is v }
+    record { tells = closes v None c.in_ok-no_more.ensures t.tells; counts = (s.n_is, s.f_is); moving = t.listed ∙ moving_is v }
