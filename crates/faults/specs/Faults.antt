@@ -1,5 +1,5 @@
 -- The answers of the reader: each kind of fault with its number, each section with its letter.
-use Rattle.std.specs.Prelude.{ℕ, Some, None, Ok, Err, Option, Result}
+use Rattle.std.specs.Prelude.{ℕ, List, [], ◌∷◌, ◌++◌, Some, None, Ok, Err, Option, Result, codes, decimal}
 use Rattle.faults.specs.declared.FaultKind.{FaultKind}
 use Rattle.faults.specs.declared.FaultKind.TheVariants.{EndsTooSoon, SwitchCount, LinkMask, FlowCount, FlowEnds, SectionCount, Hop, NeededMask, BytesFollow, TooManyMovers}
 use Rattle.faults.specs.declared.Section.{Section}
@@ -26,6 +26,10 @@ letter_of B = 66
 letter_of C = 67
 letter_of D = 68
 letter_of E = 69
+
+-- a fault as text: its number, its section's letter and its place, parted by blanks
+abbrev pub fault_text : Fault → List ℕ
+fault_text e = decimal (number_of e.kind) ++ (codes " " ++ ((letter_of e.section ∷ []) ++ (codes " " ++ decimal e.place)))
 
 -- a fault of a kind, in a section, at a place
 abbrev pub fault_of : FaultKind → Section → ℕ → Fault

@@ -1,10 +1,13 @@
 // What is wrong with a sheet: the kind of fault, the section and the place.
 #![tactic(auto)]
 
-ghost use Rattle.std.specs.Prelude.{◌≡◌};
-ghost use Rattle.faults.specs.Faults.{number_of, letter_of};
+ghost use Rattle.std.specs.Prelude.{◌≡◌, Some};
+ghost use Rattle.faults.specs.Faults.{number_of, letter_of, fault_text};
 
-#[derive(Clone, Copy, PartialEq, Eq, Debug)]
+use std::error::Error;
+use std::fmt;
+
+#[derive(Clone, Copy, Debug, PartialEq, Eq, Hash)]
 pub enum FaultKind {
     EndsTooSoon = 1,
     SwitchCount = 2,
@@ -18,7 +21,7 @@ pub enum FaultKind {
     TooManyMovers = 10,
 }
 
-#[derive(Clone, Copy, PartialEq, Eq, Debug)]
+#[derive(Clone, Copy, Debug, PartialEq, Eq, Hash)]
 pub enum Section {
     A,
     B,
@@ -27,26 +30,28 @@ pub enum Section {
     E,
 }
 
-#[derive(Clone, Copy, PartialEq, Eq, Debug)]
+#[derive(Clone, Copy, Debug, PartialEq, Eq, Hash)]
 pub struct Fault {
     pub kind: FaultKind,
     pub section: Section,
     pub place: usize,
 }
 
-impl Fault {
-    // The number under which the fault is told.
-    pub fn number(&self) -> u8
-        ensures { result ≡ number_of self.now.kind }
-    {
-        self.kind as u8
-    }
+// The number under which a kind is told.
+impl From<FaultKind> for u8 {
+    ghost from_gives = { λ kind number. number ≡ number_of kind };
 
-    // The letter of its section.
-    pub fn letter(&self) -> char
-        ensures { result ≡ letter_of self.now.section }
-    {
-        match self.section {
+    fn from(kind: FaultKind) -> u8 {
+        kind as u8
+    }
+}
+
+// The letter of a section.
+impl From<Section> for char {
+    ghost from_gives = { λ section letter. letter ≡ letter_of section };
+
+    fn from(section: Section) -> char {
+        match section {
             Section::A => 'A',
             Section::B => 'B',
             Section::C => 'C',
@@ -55,3 +60,33 @@ impl Fault {
         }
     }
 }
+
+impl Fault {
+    // The number under which the fault is told.
+    pub fn number(&self) -> u8
+        ensures { result ≡ number_of self.now.kind }
+    {
+        u8::from(self.kind)
+    }
+
+    // The letter of its section.
+    pub fn letter(&self) -> char
+        ensures { result ≡ letter_of self.now.section }
+    {
+        char::from(self.section)
+    }
+}
+
+// Number, letter and place, parted by blanks.
+impl fmt::Display for Fault {
+    ghost output = { λ fault. Some (fault_text fault) };
+
+    fn fmt<W: fmt::Write>(&self, f: &mut fmt::Formatter<W>) -> fmt::Result {
+        let number = self.number();
+        let letter = self.letter();
+        let place = self.place;
+        write!(f, "{number} {letter} {place}")
+    }
+}
+
+impl Error for Fault {}

@@ -1,16 +1,18 @@
 -- The laws of sets in terms of their members. Layers above cite these, and not the bits.
-use Rattle.std.proofs.Common.{◌≡◌, ℕ, zero, suc, ◌+◌, ◌-◌, ◌*◌, ◌/◌, ◌%◌, ◌^◌, ◌<◌, ◌≤◌, Bool, true, false, cond, eqb, ltb, ◌≢◌, ◌⊎◌, List, [], ◌∷◌, ◌++◌, length, Decides, filter, sym, refl, ap, ◌∙◌, subst, inl, inr, add-zero, pow-suc, zero-add, div-one, one-add, arith}
+use Rattle.std.proofs.Common.{◌≡◌, ℕ, zero, suc, ◌+◌, ◌-◌, ◌*◌, ◌/◌, ◌%◌, ◌^◌, ◌<◌, ◌≤◌, Bool, true, false, cond, eqb, ltb, ◌≢◌, ◌⊎◌, List, [], ◌∷◌, ◌++◌, length, Decides, filter, sym, refl, ap, ◌∙◌, subst, inl, inr, add-zero, pow-suc, zero-add, div-one, arith}
 use native.Mathlib.Nat.{div-eq_of_lt}
 use lib.Arith.{bin_ind}
 use lib.Bits.{bit_and, bit_or, bit_xor}
-use lib.Count.{ones, ones_step, ones-ones, count_trailing_zeros, under}
+use lib.Count.{ones, ones_step, ones-ones}
+use Rattle.std.specs.Bool.{one_answer}
+use Rattle.std.specs.Int.{w64, bit_not, trailing_zeros}
 use Rattle.std.specs.List.{range_with_len}
 use Rattle.std.proofs.lemmas.Nat.{pow_pos, shr-shr, div_below, div-add-mod', mod_below}
+use Rattle.std.proofs.lemmas.Nat.Bits.{bit_at-suc, bit_at-zero, bit_at_and, bit_at_or, bit_at_xor, bit_at-pow_same, bit_at-pow_other, bit_at-trailing_zeros, bit_at_clear_same, bit_at_clear_other, same_from_bits}
 use Rattle.std.proofs.lemmas.Bool.{cases_eq, cases_lt, eq-eqb, ne_eqb, eqb-true, ltb-true, lt-ltb, both_ways}
 use Rattle.std.proofs.lemmas.List.Elements.{filter-append}
 use Rattle.std.proofs.lemmas.List.{append-nil}
 use Rattle.sets.specs.Sets.{bit, InSet, Exactly, PartOf, Disjoint, SameMembers, MembersBelow, Empty, Lowest, members}
-use Rattle.sets.proofs.Bits.{bit_of_or, bit_of_and, bit_of_xor, bit_shr, bit_half, bit_zero, bit_one, bit_other, no_bits, same_bits}
 
 -- s is a member of m, or its bit is 0
 pub cases_member : (m s : ℕ) → InSet m s ⊎ (bit m s ≡ 0)
@@ -24,14 +26,17 @@ no_member m s z h = omega arith
 
 -- sets with the same members are equal
 pub same_members : (a b : ℕ) → PartOf a b → PartOf b a → a ≡ b
-same_members a b there back = same_bits a b (λ t. elim (cases_member a t) [ inl h ↦ h ∙ sym (there t h) | inr z ↦ z ∙ sym (not_member b t (λ k. no_member a t z (back t k))) ])
+same_members a b there back = same_from_bits a b (λ t. elim (cases_member a t) [ inl h ↦ h ∙ sym (there t h) | inr z ↦ z ∙ sym (not_member b t (λ k. no_member a t z (back t k))) ])
 
 pub exactly_one : {P : ℕ → Type 0} (a b : ℕ) → Exactly a P → Exactly b P → a ≡ b
 exactly_one a b ea eb = same_members a b (λ s h. eb.all s (ea.each s h)) (λ s h. ea.all s (eb.each s h))
 
 -- the empty set is 0, and any other number has a member
+no_bits : (m : ℕ) → ((t : ℕ) → bit m t ≡ 0) → m ≡ 0
+no_bits m h = same_from_bits m 0 (λ t. h t ∙ sym (bit_at-zero t))
+
 pub none_in_zero : (s : ℕ) → InSet 0 s → ⊥
-none_in_zero s h = no_member 0 s (bit_zero s) h
+none_in_zero s h = no_member 0 s (bit_at-zero s) h
 
 pub empty_zero : (m : ℕ) → Empty m → m ≡ 0
 empty_zero m none = no_bits m (λ s. not_member m s (none s))
@@ -41,39 +46,39 @@ some_member = bin_ind (λ m. (m ≡ 0) ⊎ ((s : ℕ) × InSet m s)) (inl refl) 
   where
     step : (n : ℕ) → (n / 2 ≡ 0) ⊎ ((s : ℕ) × InSet (n / 2) s) → (n ≡ 0) ⊎ ((s : ℕ) × InSet n s)
     step n (inl h) = elim (cases_eq (n % 2) 1) [ inl e ↦ inr (0, omega (arith, div-one n)) | inr ne ↦ inl (omega arith) ]
-    step n (inr b) = inr (1 + b.0, sym (bit_half n b.0) ∙ b.1)
+    step n (inr b) = inr (suc b.0, bit_at-suc n b.0 ∙ b.1)
 
 -- union
 pub or_members : (a b : ℕ) → Exactly (bit_or a b) (λ t. InSet a t ⊎ InSet b t)
 or_members a b = record {
-  each = λ t h. elim (cases_member a t) [ inl k ↦ inl k | inr z ↦ inr (omega (arith, bit_of_or a b t, h)) ];
-  all = λ t h. elim h [ inl k ↦ omega (arith, bit_of_or a b t, k) | inr k ↦ omega (arith, bit_of_or a b t, k) ];
+  each = λ t h. elim (cases_member a t) [ inl k ↦ inl k | inr z ↦ inr (omega (arith, bit_at_or a b t, h)) ];
+  all = λ t h. elim h [ inl k ↦ omega (arith, bit_at_or a b t, k) | inr k ↦ omega (arith, bit_at_or a b t, k) ];
 }
 
 -- intersection
 pub and_members : (a b : ℕ) → Exactly (bit_and a b) (λ t. InSet a t × InSet b t)
 and_members a b = record {
-  each = λ t h. (omega (arith, bit_of_and a b t, h), omega (arith, bit_of_and a b t, h));
-  all = λ t h. omega (arith, bit_of_and a b t, h.0, h.1);
+  each = λ t h. (omega (arith, bit_at_and a b t, h), omega (arith, bit_at_and a b t, h));
+  all = λ t h. omega (arith, bit_at_and a b t, h.0, h.1);
 }
 
 -- the set of one switch
 pub one_member : (s t : ℕ) → InSet (2 ^ s) t → t ≡ s
-one_member s t h = elim (cases_eq s t) [ inl e ↦ sym e | inr ne ↦ absurd (no_member (2 ^ s) t (bit_other s t ne) h) ]
+one_member s t h = elim (cases_eq s t) [ inl e ↦ sym e | inr ne ↦ absurd (no_member (2 ^ s) t (bit_at-pow_other s t (λ e. ne (sym e))) h) ]
 
 -- one switch more
 pub with_members : (m s : ℕ) → Exactly (bit_or m (2 ^ s)) (λ t. InSet m t ⊎ (t ≡ s))
 with_members m s = record {
   each = λ t h. elim ((or_members m (2 ^ s)).each t h) [ inl k ↦ inl k | inr k ↦ inr (one_member s t k) ];
-  all = λ t h. (or_members m (2 ^ s)).all t (elim h [ inl k ↦ inl k | inr e ↦ inr (ap (bit (2 ^ s)) e ∙ bit_one s) ]);
+  all = λ t h. (or_members m (2 ^ s)).all t (elim h [ inl k ↦ inl k | inr e ↦ inr (ap (bit (2 ^ s)) e ∙ bit_at-pow_same s) ]);
 }
 
 -- one switch less
 bit_without : (m s t : ℕ) → s ≢ t → bit (bit_xor (bit_or m (2 ^ s)) (2 ^ s)) t ≡ bit m t
-bit_without m s t ne = omega (arith, bit_of_xor (bit_or m (2 ^ s)) (2 ^ s) t, bit_of_or m (2 ^ s) t, bit_other s t ne)
+bit_without m s t ne = omega (arith, bit_at_xor (bit_or m (2 ^ s)) (2 ^ s) t, bit_at_or m (2 ^ s) t, bit_at-pow_other s t (λ e. ne (sym e)))
 
 bit_gone : (m s : ℕ) → bit (bit_xor (bit_or m (2 ^ s)) (2 ^ s)) s ≡ 0
-bit_gone m s = omega (arith, bit_of_xor (bit_or m (2 ^ s)) (2 ^ s) s, bit_of_or m (2 ^ s) s, bit_one s)
+bit_gone m s = omega (arith, bit_at_xor (bit_or m (2 ^ s)) (2 ^ s) s, bit_at_or m (2 ^ s) s, bit_at-pow_same s)
 
 pub without_members : (m s : ℕ) → Exactly (bit_xor (bit_or m (2 ^ s)) (2 ^ s)) (λ t. InSet m t × (t ≡ s → ⊥))
 without_members m s = record {
@@ -93,8 +98,8 @@ part_test a b = (
 
 pub apart_test : (a b : ℕ) → Decides (eqb (bit_and a b) 0) (Disjoint a b)
 apart_test a b = (
-  (λ e t h k. omega (arith, bit_of_and a b t, ap (λ m. bit m t) (eqb-true (bit_and a b) 0 e), bit_zero t, h, k)),
-  (λ p. eq-eqb (bit_and a b) 0 (no_bits (bit_and a b) (λ t. elim (cases_member a t) [ inl h ↦ omega (arith, bit_of_and a b t, not_member b t (p t h)) | inr z ↦ omega (arith, bit_of_and a b t, z) ]))),
+  (λ e t h k. omega (arith, bit_at_and a b t, ap (λ m. bit m t) (eqb-true (bit_and a b) 0 e), bit_at-zero t, h, k)),
+  (λ p. eq-eqb (bit_and a b) 0 (no_bits (bit_and a b) (λ t. elim (cases_member a t) [ inl h ↦ omega (arith, bit_at_and a b t, not_member b t (p t h)) | inr z ↦ omega (arith, bit_at_and a b t, z) ]))),
 )
 
 pub same_test : (a b : ℕ) → Decides (eqb a b) (SameMembers a b)
@@ -104,6 +109,9 @@ same_test a b = (
 )
 
 -- a set below n is a number below 2 ^ n
+bit_shr : (m s t : ℕ) → bit (m / 2 ^ s) t ≡ bit m (s + t)
+bit_shr m s t = ap (λ n. n % 2) (shr-shr m s t)
+
 pub below_quotient : (n m : ℕ) → MembersBelow n m → m / 2 ^ n ≡ 0
 below_quotient n m p = no_bits (m / 2 ^ n) (λ t. bit_shr m n t ∙ not_member m (n + t) (λ h. omega (arith, p (n + t) h)))
 
@@ -113,7 +121,7 @@ below_members n m z s h =
       | inl l ↦ l
       | inr ge ↦
           let at : n + (s - n) ≡ s = omega arith in
-          absurd (no_member m s (ap (bit m) (sym at) ∙ sym (bit_shr m n (s - n)) ∙ ap (λ k. bit k (s - n)) z ∙ bit_zero (s - n)) h)
+          absurd (no_member m s (ap (bit m) (sym at) ∙ sym (bit_shr m n (s - n)) ∙ ap (λ k. bit k (s - n)) z ∙ bit_at-zero (s - n)) h)
     ]
 
 pub below_test : (n m : ℕ) → Decides (eqb (m / 2 ^ n) 0) (MembersBelow n m)
@@ -142,36 +150,21 @@ unfolding members
 count_members m h = count_from m 64 0 (omega (arith, div-one m)) ∙ ap ones (div-one m)
 
 -- the zeros below the lowest set bit
-member_half : (n t : ℕ) → bit n (suc t) ≡ bit (n / 2) t
-member_half n t = ap (bit n) (sym (one-add t)) ∙ sym (bit_half n t)
+pub lowest_trailing : (m : ℕ) → 0 < m → m < 2 ^ 64 → Lowest m (trailing_zeros w64 m)
+lowest_trailing m pos small =
+    let low = bit_at-trailing_zeros w64 m pos small in
+    record { member = low.1; least = λ t h. elim (cases_lt t (trailing_zeros w64 m)) [ inl below ↦ absurd (no_member m t (low.2 t below) h) | inr ge ↦ ge ] }
 
-lowest_above : (n t : ℕ) → n % 2 ≡ 0 → Lowest (n / 2) t → Lowest n (suc t)
-lowest_above n t even low = record { member = member_half n t ∙ low.member; least = least_of }
-  where
-    least_of : (u : ℕ) → InSet n u → suc t ≤ u
-    least_of zero h = absurd (omega (arith, h, even, div-one n))
-    least_of (suc u) h = omega (arith, low.least u (sym (member_half n u) ∙ h))
+-- one switch less, by the mask of all others
+pub cleared_members : (m s : ℕ) → m < 2 ^ 64 → s < 64 → Exactly (bit_and m (bit_not w64 (1 * 2 ^ s % 2 ^ 64))) (λ t. InSet m t × (t ≡ s → ⊥))
+cleared_members m s small within =
+    let mask = bit_not w64 (1 * 2 ^ s % 2 ^ 64) in
+    record {
+      each = λ t h. (((and_members m mask).each t h).0, λ e. no_member (bit_and m mask) s (bit_at_clear_same w64 m s within) (ap (bit (bit_and m mask)) (sym e) ∙ h));
+      all = λ t h. bit_at_clear_other w64 m s within t (number_below 64 m small t h.0) h.1 ∙ h.0;
+    }
 
-abbrev LowestBelow : ℕ → ℕ → ℕ → Type 0
-LowestBelow k n t = Lowest n t × (t < k)
-
-lowest_under : (k n d t : ℕ) → n % 2 ≡ d → (d ≡ 0 → LowestBelow k (n / 2) t) → LowestBelow (suc k) n (under d t)
-lowest_under k n zero t e rest = (lowest_above n t e (rest refl).0, omega (arith, (rest refl).1))
-lowest_under k n (suc d) t e rest = (record { member = omega (arith, e, div-one n); least = λ u h. omega arith }, omega arith)
-
-pub lowest_trailing : (k n : ℕ) → 0 < n → n < 2 ^ k → LowestBelow k n (count_trailing_zeros k n)
-unfolding count_trailing_zeros
-lowest_trailing zero n pos h = absurd (omega arith)
-lowest_trailing (suc k) n pos h =
-    lowest_under k n (n % 2) (count_trailing_zeros k (n / 2)) refl
-    (λ e. lowest_trailing k (n / 2) (omega (arith, e)) (div_below n 2 (2 ^ k) (omega arith) (omega (arith, h, pow-suc 2 k))))
-
--- tests of one question agree
-pub same_answer : {P : Type 0} (a b : Bool) → Decides a P → Decides b P → a ≡ b
-same_answer true b da db = sym (db.1 (da.0 refl))
-same_answer false true da db = da.1 (db.0 refl)
-same_answer false false da db = refl
-
+-- tests of one question
 pub below_ltb : (n m : ℕ) → Decides (ltb m (2 ^ n)) (MembersBelow n m)
 below_ltb n m = ((λ e. number_below n m (ltb-true m (2 ^ n) e)), (λ p. lt-ltb m (2 ^ n) (below_number n m p)))
 
@@ -183,7 +176,7 @@ abbrev pub Chosen : ℕ → (ℕ → Bool) → ℕ → Type 0
 Chosen m p n = Exactly m (λ t. (t < n) × (p t ≡ true))
 
 pub chosen_none : (p : ℕ → Bool) → Chosen 0 p 0
-chosen_none p = record { each = λ t h. absurd (omega (arith, h, bit_zero t)); all = λ t h. absurd (omega (arith, h.0)) }
+chosen_none p = record { each = λ t h. absurd (omega (arith, h, bit_at-zero t)); all = λ t h. absurd (omega (arith, h.0)) }
 
 pub chosen_with : (m r : ℕ) (p : ℕ → Bool) (n : ℕ) → n < 64 → Chosen m p n → p n ≡ true → Exactly r (λ t. InSet m t ⊎ ((t ≡ n) × (n < 64))) → Chosen r p (n + 1)
 chosen_with m r p n small before here put = record {
@@ -201,65 +194,65 @@ chosen_skip m p n before here = record {
 }
 
 -- its members, rising
-kept_same : (p q : ℕ → Bool) (k a : ℕ) → ((t : ℕ) → a ≤ t → t < a + k → p t ≡ q t) → filter p (range_with_len a k) ≡ filter q (range_with_len a k)
-kept_same p q zero a same = refl
-kept_same p q (suc k) a same =
-    let rest = kept_same p q k (a + 1) (λ t low high. same t (omega arith) (omega arith)) in
+filter_same : (p q : ℕ → Bool) (k a : ℕ) → ((t : ℕ) → a ≤ t → t < a + k → p t ≡ q t) → filter p (range_with_len a k) ≡ filter q (range_with_len a k)
+filter_same p q zero a same = refl
+filter_same p q (suc k) a same =
+    let rest = filter_same p q k (a + 1) (λ t low high. same t (omega arith) (omega arith)) in
     ap (λ xs. cond (p a) (a ∷ xs) xs) rest ∙ ap (λ b. cond b (a ∷ filter q (range_with_len (a + 1) k)) (filter q (range_with_len (a + 1) k))) (same a (omega arith) (omega arith))
 
-kept_none : (p : ℕ → Bool) (k a : ℕ) → ((t : ℕ) → a ≤ t → t < a + k → p t ≡ false) → filter p (range_with_len a k) ≡ []
-kept_none p zero a none = refl
-kept_none p (suc k) a none =
+filter_none : (p : ℕ → Bool) (k a : ℕ) → ((t : ℕ) → a ≤ t → t < a + k → p t ≡ false) → filter p (range_with_len a k) ≡ []
+filter_none p zero a none = refl
+filter_none p (suc k) a none =
     ap (λ b. cond b (a ∷ filter p (range_with_len (a + 1) k)) (filter p (range_with_len (a + 1) k))) (none a (omega arith) (omega arith))
-    ∙ kept_none p k (a + 1) (λ t low high. none t (omega arith) (omega arith))
+    ∙ filter_none p k (a + 1) (λ t low high. none t (omega arith) (omega arith))
 
-counting_split : (a i k : ℕ) → range_with_len a (i + k) ≡ range_with_len a i ++ range_with_len (a + i) k
-counting_split a zero k = ap (range_with_len a) (zero-add k) ∙ ap (λ b. range_with_len b k) (sym (add-zero a))
-counting_split a (suc i) k =
+range_split : (a i k : ℕ) → range_with_len a (i + k) ≡ range_with_len a i ++ range_with_len (a + i) k
+range_split a zero k = ap (range_with_len a) (zero-add k) ∙ ap (λ b. range_with_len b k) (sym (add-zero a))
+range_split a (suc i) k =
     let e : suc i + k ≡ suc (i + k) = omega arith in
     let s : a + 1 + i ≡ a + suc i = omega arith in
-    ap (range_with_len a) e ∙ ap (λ xs. a ∷ xs) (counting_split (a + 1) i k ∙ ap (λ b. range_with_len (a + 1) i ++ range_with_len b k) s)
+    ap (range_with_len a) e ∙ ap (λ xs. a ∷ xs) (range_split (a + 1) i k ∙ ap (λ b. range_with_len (a + 1) i ++ range_with_len b k) s)
 
 -- one number more
-pub kept_more : (p : ℕ → Bool) (s : ℕ) → filter p (range_with_len 0 (s + 1)) ≡ filter p (range_with_len 0 s) ++ cond (p s) (s ∷ []) []
-kept_more p s = ap (filter p) (counting_split 0 s 1) ∙ filter-append p (range_with_len 0 s) (range_with_len (0 + s) 1) ∙ ap (λ t. filter p (range_with_len 0 s) ++ cond (p t) (t ∷ []) []) (zero-add s)
+pub filter_range_more : (p : ℕ → Bool) (s : ℕ) → filter p (range_with_len 0 (s + 1)) ≡ filter p (range_with_len 0 s) ++ cond (p s) (s ∷ []) []
+filter_range_more p s = ap (filter p) (range_split 0 s 1) ∙ filter-append p (range_with_len 0 s) (range_with_len (0 + s) 1) ∙ ap (λ t. filter p (range_with_len 0 s) ++ cond (p t) (t ∷ []) []) (zero-add s)
 
 pub chosen_members : (m : ℕ) (p : ℕ → Bool) (n : ℕ) → n ≤ 64 → Chosen m p n → members m ≡ filter p (range_with_len 0 n)
 unfolding members
 chosen_members m p n small only =
     let e : n + (64 - n) ≡ 64 = omega arith in
     let has : ℕ → Bool = λ s. eqb (bit m s) 1 in
-    ap (λ k. filter has (range_with_len 0 k)) (sym e) ∙ ap (filter has) (counting_split 0 n (64 - n))
+    ap (λ k. filter has (range_with_len 0 k)) (sym e) ∙ ap (filter has) (range_split 0 n (64 - n))
     ∙ filter-append has (range_with_len 0 n) (range_with_len (0 + n) (64 - n))
-    ∙ ap (λ xs. filter has (range_with_len 0 n) ++ xs) (kept_none has (64 - n) (0 + n) (λ t low high. ne_eqb (bit m t) 1 (λ h. omega (arith, (only.each t h).0))))
+    ∙ ap (λ xs. filter has (range_with_len 0 n) ++ xs) (filter_none has (64 - n) (0 + n) (λ t low high. ne_eqb (bit m t) 1 (λ h. omega (arith, (only.each t h).0))))
     ∙ append-nil (filter has (range_with_len 0 n))
-    ∙ kept_same has p n 0 (λ t low high. same_answer (has t) (p t) (member_eqb m t) ((λ e. only.all t (omega arith, e)), (λ h. (only.each t h).1)))
+    ∙ filter_same has p n 0 (λ t low high. one_answer (has t) (p t) (member_eqb m t) ((λ e. only.all t (omega arith, e)), (λ h. (only.each t h).1)))
 
 -- and back: the list of the members says which they are
 abbrev Listed : ℕ → List ℕ → Type 0
 Listed s [] = ⊥
 Listed s (x ∷ xs) = (s ≡ x) ⊎ Listed s xs
 
-kept_head : (p : ℕ → Bool) (a : ℕ) (xs : List ℕ) (s : ℕ) → (b : Bool) → p a ≡ b → Listed s (cond b (a ∷ xs) xs) → ((s ≡ a) × (p a ≡ true)) ⊎ Listed s xs
-kept_head p a xs s true e (inl h) = inl (h, e)
-kept_head p a xs s true e (inr h) = inr h
-kept_head p a xs s false e h = inr h
+filter_head : (p : ℕ → Bool) (a : ℕ) (xs : List ℕ) (s : ℕ) → (b : Bool) → p a ≡ b → Listed s (cond b (a ∷ xs) xs) → ((s ≡ a) × (p a ≡ true)) ⊎ Listed s xs
+filter_head p a xs s true e (inl h) = inl (h, e)
+filter_head p a xs s true e (inr h) = inr h
+filter_head p a xs s false e h = inr h
 
-from_kept : (p : ℕ → Bool) (k a s : ℕ) → Listed s (filter p (range_with_len a k)) → (s < a + k) × (p s ≡ true)
-from_kept p zero a s h = absurd h
-from_kept p (suc k) a s h =
-    elim (kept_head p a (filter p (range_with_len (a + 1) k)) s (p a) refl h) [
+from_filter : (p : ℕ → Bool) (k a s : ℕ) → Listed s (filter p (range_with_len a k)) → (s < a + k) × (p s ≡ true)
+from_filter p zero a s h = absurd h
+from_filter p (suc k) a s h =
+    elim (filter_head p a (filter p (range_with_len (a + 1) k)) s (p a) refl h) [
       | inl e ↦ (omega (arith, e.0), ap p e.0 ∙ e.1)
-      | inr r ↦ let q = from_kept p k (a + 1) s r in (omega (arith, q.0), q.1)
+      | inr r ↦ let q = from_filter p k (a + 1) s r in (omega (arith, q.0), q.1)
     ]
 
-to_kept : (p : ℕ → Bool) (k a s : ℕ) → a ≤ s → s < a + k → p s ≡ true → Listed s (filter p (range_with_len a k))
-to_kept p zero a s low high e = absurd (omega arith)
-to_kept p (suc k) a s low high e =
+to_filter : (p : ℕ → Bool) (k a s : ℕ) → a ≤ s → s < a + k → p s ≡ true → Listed s (filter p (range_with_len a k))
+to_filter p zero a s low high e = absurd (omega arith)
+to_filter p (suc k) a s low high e =
     let R : List ℕ = filter p (range_with_len (a + 1) k) in
     elim (cases_eq s a) [
       | inl same ↦ subst (λ b. Listed s (cond b (a ∷ R) R)) (sym (sym (ap p same) ∙ e)) (inl same)
-      | inr ne ↦ later (p a) R (to_kept p k (a + 1) s (omega arith) (omega arith) e)
+      | inr ne ↦ later (p a) R (to_filter p k (a + 1) s (omega arith) (omega arith) e)
     ]
   where
     later : (b : Bool) (xs : List ℕ) → Listed s xs → Listed s (cond b (a ∷ xs) xs)
@@ -270,6 +263,6 @@ pub chosen_from_members : (m : ℕ) (p : ℕ → Bool) (n : ℕ) → m < 2 ^ 64 
 unfolding members
 chosen_from_members m p n small e =
     let has : ℕ → Bool = λ s. eqb (bit m s) 1 in record {
-      each = λ t h. let q = from_kept p n 0 t (subst (Listed t) e (to_kept has 64 0 t (omega arith) (omega (arith, number_below 64 m small t h)) ((member_eqb m t).1 h))) in (omega (arith, q.0), q.1);
-      all = λ t h. (member_eqb m t).0 (from_kept has 64 0 t (subst (Listed t) (sym e) (to_kept p n 0 t (omega arith) (omega (arith, h.0)) h.1))).1;
+      each = λ t h. let q = from_filter p n 0 t (subst (Listed t) e (to_filter has 64 0 t (omega arith) (omega (arith, number_below 64 m small t h)) ((member_eqb m t).1 h))) in (omega (arith, q.0), q.1);
+      all = λ t h. (member_eqb m t).0 (from_filter has 64 0 t (subst (Listed t) (sym e) (to_filter p n 0 t (omega arith) (omega (arith, h.0)) h.1))).1;
     }

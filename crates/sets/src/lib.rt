@@ -1,7 +1,7 @@
 // Sets of switches 0 to 63 as numbers of 64 bits. A switch is any byte: one of 64 or above is in no set, and cannot be put into one.
 #![tactic(auto)]
 
-ghost use Rattle.std.specs.Prelude.{◌≡◌, ◌<◌, ◌⊎◌, length, Decides, MatchOption, ◌≢◌};
+ghost use Rattle.std.specs.Prelude.{◌≡◌, ◌<◌, ◌⊎◌, ◌↔◌, length, IsTrue, MatchOption, ◌≢◌};
 ghost use Rattle.sets.specs.Sets.{InSet, Exactly, PartOf, Disjoint, SameMembers, MembersBelow, Empty, Lowest, members};
 
 // How many switches a set can have.
@@ -9,7 +9,7 @@ const WIDTH: u8 = 64;
 
 // Whether switch s is in the set.
 pub fn has(set: u64, s: u8) -> bool
-    ensures { Decides result (InSet set s) }
+    ensures { IsTrue result ↔ InSet set s }
 {
     s < WIDTH && (set >> s) & 1 == 1
 }
@@ -27,7 +27,7 @@ pub fn without(set: u64, s: u8) -> u64
 {
     if s < WIDTH {
         let only = 1u64 << s;
-        (set | only) ^ only
+        set & !only
     } else {
         set
     }
@@ -42,28 +42,28 @@ pub fn joined(a: u64, b: u64) -> u64
 
 // Whether each switch of a is in b.
 pub fn part_of(a: u64, b: u64) -> bool
-    ensures { Decides result (PartOf a b) }
+    ensures { IsTrue result ↔ PartOf a b }
 {
     a & b == a
 }
 
 // Whether a and b have no switch in common.
 pub fn apart(a: u64, b: u64) -> bool
-    ensures { Decides result (Disjoint a b) }
+    ensures { IsTrue result ↔ Disjoint a b }
 {
     a & b == 0
 }
 
 // Whether a and b have the same switches: equal numbers are equal sets.
 pub fn same(a: u64, b: u64) -> bool
-    ensures { Decides result (SameMembers a b) }
+    ensures { IsTrue result ↔ SameMembers a b }
 {
     a == b
 }
 
 // Whether each switch of the set is below n.
 pub fn below(set: u64, n: u8) -> bool
-    ensures { Decides result (MembersBelow n set) }
+    ensures { IsTrue result ↔ MembersBelow n set }
 {
     n >= WIDTH || set >> n == 0
 }

@@ -1,10 +1,9 @@
 use Rattle.std.proofs.Common.{arith}
-use Rattle.std.proofs.lemmas.Nat.{one_shl}
-use Rattle.sets.proofs.Laws.{without_members, number_below}
+use Rattle.sets.proofs.Laws.{cleared_members, number_below}
 use Rattle.sets.proofs.without.Goals as goal
 
 pub returns-then-s-lt-WIDTH : goal.returns-then-s-lt-WIDTH
-returns-then-s-lt-WIDTH c = rw (one_shl c.args.s 64 c.if-s-lt-WIDTH.true) (without_members c.args.set c.args.s)
+returns-then-s-lt-WIDTH c = cleared_members c.args.set c.args.s (omega arith) c.if-s-lt-WIDTH.true
 
 pub returns-else-s-lt-WIDTH : goal.returns-else-s-lt-WIDTH
 returns-else-s-lt-WIDTH c = record {
