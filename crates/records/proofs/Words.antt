@@ -1,34 +1,8 @@
--- Numbers written by bytes, rows read hop by hop, and parts of a list.
-use Rattle.std.proofs.Common.{◌≡◌, ℕ, ◌+◌, ◌*◌, ◌^◌, ◌<◌, ◌≤◌, true, false, ◌&&◌, List, length, get_or, take, drop, ap, ◌∙◌, pow-suc, add-one, arith}
-use native.Mathlib.Nat.{pow-le-pow_right}
-use Rattle.std.specs.Int.Digits.{number_from_digits}
-use Rattle.std.proofs.lemmas.Int.Digits.{number_more}
-use Rattle.std.proofs.lemmas.List.{at_drop_more, get_or-take, get_or-drop, length-take, length-drop}
+-- Parts of a list: their length, and what stands in them.
+use Rattle.std.proofs.Common.{◌≡◌, ℕ, ◌+◌, ◌<◌, ◌≤◌, List, length, get_or, drop, ◌∙◌, arith}
+use Rattle.std.proofs.lemmas.List.{get_or-take, get_or-drop, length-take, length-drop}
 use Rattle.records.specs.Masks.{bytes_at}
-use Rattle.records.specs.Tables.{hop_fits, row_fits}
 
--- one byte more is below the next power
-pub below_more : (i m b : ℕ) → m < 256 ^ i → b < 256 → m * 256 + b < 256 ^ (i + 1)
-below_more i m b hm hb = rw add-one (omega (arith, pow-suc 256 i))
-
--- up to eight bytes fit 64 bits
-pub word_fits : (i m : ℕ) → i < 8 → m < 256 ^ i → m * 256 + 255 < 2 ^ 64
-word_fits i m h l =
-    let le : i + 1 ≤ 8 = omega arith in
-    let p : 256 ^ (i + 1) ≤ 256 ^ 8 = pow-le-pow_right (omega arith) le in
-    omega (arith, below_more i m 255 l (omega arith))
-
-pub word_more : (bs : List ℕ) (i m b : ℕ) → i < length bs → b ≡ get_or bs i 0 → m ≡ number_from_digits 256 (take i bs) → m * 256 + b ≡ number_from_digits 256 (take (i + 1) bs)
-word_more bs i m b h eb em = let s = number_more 256 bs i h in cc
-
--- a row whose next hop fits, and one whose next hop does not
-pub row_more : (m : ℕ) (row : List ℕ) (i : ℕ) → i < length row → hop_fits m (get_or row i 0) ≡ true → row_fits m (drop i row) ≡ row_fits m (drop (i + 1) row)
-row_more m row i h e = at_drop_more (row_fits m) row i 0 h ∙ ap (λ b. b && row_fits m (drop (i + 1) row)) e
-
-pub row_stops : (m : ℕ) (row : List ℕ) (i : ℕ) → i < length row → hop_fits m (get_or row i 0) ≡ false → row_fits m (drop i row) ≡ false
-row_stops m row i h e = at_drop_more (row_fits m) row i 0 h ∙ ap (λ b. b && row_fits m (drop (i + 1) row)) e
-
--- a part of a list: its length, and what stands in it
 pub part_length : (xs : List ℕ) (p k : ℕ) → p + k ≤ length xs → length (bytes_at xs p k) ≡ k
 part_length xs p k h = length-take k (drop p xs) ∙ omega (arith, length-drop p xs)
 

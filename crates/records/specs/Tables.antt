@@ -1,6 +1,6 @@
 -- Forwarding tables: one row for each switch, and in it one entry for each flow.
-use Rattle.std.specs.Prelude.{◌≡◌, ℕ, ◌+◌, ◌*◌, ◌<◌, ◌≤◌, Bool, true, not, ◌&&◌, ◌||◌, ◌⊎◌, List, [], ◌∷◌, length, take, drop, filter, ◌==◌, ◌≢◌, slice_index}
-use Rattle.std.specs.List.{range_with_len}
+use Rattle.std.specs.Prelude.{◌≡◌, ℕ, ◌+◌, ◌*◌, ◌<◌, ◌≤◌, Bool, not, ◌||◌, ◌⊎◌, List, length, take, drop, filter, ◌==◌, ◌≢◌, slice_index}
+use Rattle.std.specs.List.{list_all, range_with_len}
 use Rattle.std.specs.Str.{bytes_eq}
 use Rattle.sets.specs.Sets.{bit, InSet, Exactly, members}
 
@@ -26,8 +26,7 @@ hop_fits m h = h == 255 || bit m h == 1
 
 -- every hop of a row fits
 abbrev pub row_fits : ℕ → List ℕ → Bool
-row_fits m [] = true
-row_fits m (h ∷ hs) = hop_fits m h && row_fits m hs
+row_fits m row = list_all (hop_fits m) row
 
 -- switch s of n is a mover: its rows in the old and in the new table differ at some place
 pub record Mover (n f : ℕ) (old new : List ℕ) (s : ℕ) : Type 0 where

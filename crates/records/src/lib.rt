@@ -5,4 +5,4 @@ mod rules;
 mod tables;
 
 pub use rules::{links_fit, mask_at, mask_fits, row_fits, within};
-pub use tables::movers;
+pub use tables::Tables;

@@ -1,6 +1,5 @@
 // Counts, masks and rows.
-ghost use Rattle.std.specs.Prelude.{◌≡◌, ◌+◌, ◌≤◌, length, if◌then◌else◌, Some, None, nat_le};
-ghost use Rattle.std.specs.Int.Digits.{number_from_digits};
+ghost use Rattle.std.specs.Prelude.{◌≡◌, ◌+◌, ◌==◌, length, if◌then◌else◌, Some, None, nat_le};
 ghost use Rattle.records.specs.Masks.{mask_at, in_range as within_of, mask_fits, links_fit};
 ghost use Rattle.records.specs.Tables.{row_fits, hop_fits};
 
@@ -11,30 +10,15 @@ const NO_HOP: u8 = 255;
 pub fn within(most: u8, count: u8) -> bool
     ensures { result ≡ within_of most count }
 {
-    0 < count && count <= most
-}
-
-// The number that bytes write, the most significant first.
-fn big_endian(bytes: &[u8]) -> u64
-    requires { length bytes.now ≤ 8 }
-    ensures { result ≡ number_from_digits 256 bytes.now }
-{
-    let mut m = 0u64;
-    for b in bytes {
-        m = m * 256 + u64::from(*b);
-    }
-    m
+    (1..=most).contains(&count)
 }
 
 // The mask at a place of a sheet, or none where its eight bytes are not all there.
 pub fn mask_at(sheet: &[u8], place: usize) -> Option<u64>
     ensures { result ≡ (if nat_le (place + 8) (length sheet.now) then Some (mask_at sheet.now place) else None) }
 {
-    if place <= sheet.len() && sheet.len() - place >= 8 {
-        Some(big_endian(&sheet[place..place + 8]))
-    } else {
-        None
-    }
+    let rest = sheet.get(place..)?;
+    rest.first_chunk().map(|bytes| u64::from_be_bytes(*bytes))
 }
 
 // Whether each switch of the set m is below n.
@@ -51,21 +35,23 @@ pub fn links_fit(m: u64, n: u8, s: u8) -> bool
     !sets::has(m, s) && mask_fits(m, n)
 }
 
-// Whether a hop at a switch with the links m is none, or a linked switch.
-fn hop_fits(m: u64, hop: u8) -> bool
-    ensures { result ≡ hop_fits m hop }
+// The switch that an entry of a row names, if it names one.
+fn next_hop(entry: u8) -> Option<u8>
+    ensures { result ≡ (if entry == 255 then None else Some entry) }
 {
-    hop == NO_HOP || sets::has(m, hop)
+    (entry != NO_HOP).then_some(entry)
+}
+
+// Whether an entry at a switch with the links m names no switch, or a linked one.
+fn hop_fits(m: u64, entry: u8) -> bool
+    ensures { result ≡ hop_fits m entry }
+{
+    next_hop(entry).is_none_or(|s| sets::has(m, s))
 }
 
 // Whether each hop of a row fits.
 pub fn row_fits(m: u64, row: &[u8]) -> bool
     ensures { result ≡ row_fits m row.now }
 {
-    for hop in row {
-        if !hop_fits(m, *hop) {
-            return false;
-        }
-    }
-    true
+    row.iter().all(|&entry| hop_fits(m, entry))
 }

@@ -1,47 +1,62 @@
 // Rows of a table, and the movers between two tables.
-ghost use Rattle.std.specs.Prelude.{◌≡◌, ◌+◌, ◌*◌, ◌≤◌, length, MatchOption};
-ghost use Rattle.records.specs.Tables.{row_size, table_row, rows_differ as moves_of, WholeTables, MoverSet};
+ghost use Rattle.std.specs.Prelude.{◌≡◌, ◌+◌, ◌*◌, ◌<◌, ◌≤◌, length, MatchOption};
+ghost use Rattle.records.specs.Tables.{row_size, table_row, rows_differ, WholeTables, MoverSet};
 
-// Row s of a table for f flows.
-fn row(table: &[u8], f: u8, s: u8) -> &[u8]
-    requires { s * row_size f + row_size f ≤ length table.now }
-    ensures { result.now ≡ table_row f table.now s }
+// The old and the new table of a network: a row for each switch, and in it an entry for each flow.
+#[derive(Clone, Copy, Debug)]
+pub struct Tables<'a> {
+    pub old: &'a [u8],
+    pub new: &'a [u8],
+    pub switches: u8,
+    pub flows: u8,
+    ghost whole: { WholeTables switches flows old.now new.now },
+}
+
+// Row s of a table for so many flows.
+fn row(table: &[u8], flows: u8, s: u8) -> &[u8]
+    requires { s * row_size flows + row_size flows ≤ length table.now }
+    ensures { result.now ≡ table_row flows table.now s }
 {
-    let size = f as usize;
-    let from = s as usize * size;
+    let size = usize::from(flows);
+    let from = usize::from(s) * size;
     &table[from..from + size]
 }
 
-// Whether the two rows of switch s differ.
-fn moves(old: &[u8], new: &[u8], f: u8, s: u8) -> bool
-    requires in_old { s * row_size f + row_size f ≤ length old.now }
-    requires in_new { s * row_size f + row_size f ≤ length new.now }
-    ensures { result ≡ moves_of f old.now new.now s }
-{
-    row(old, f, s) != row(new, f, s)
-}
-
-// The set of the switches whose rows differ, of two tables with rows for n switches and f flows. None where there are more switches than a set can have, or a table is shorter than that.
-pub fn movers(old: &[u8], new: &[u8], n: u8, f: u8) -> Option<u64>
-    ensures { MatchOption result (WholeTables n f old.now new.now → ⊥) (MoverSet n f old.now new.now) }
-{
-    let size = n as usize * f as usize;
-    if n > 64 || old.len() < size || new.len() < size {
-        return None;
-    }
-    Some(mover_set(old, new, n, f))
-}
-
-// The same where the tables are whole.
-fn mover_set(old: &[u8], new: &[u8], n: u8, f: u8) -> u64
-    requires { WholeTables n f old.now new.now }
-    ensures { MoverSet n f old.now new.now result }
-{
-    let mut set = 0;
-    for s in 0..n {
-        if moves(old, new, f, s) {
-            set = sets::with(set, s);
+impl<'a> Tables<'a> {
+    // Two tables with rows for n switches and f flows. None where there are more switches than a set can have, or a table is shorter than that.
+    pub fn new(old: &'a [u8], new: &'a [u8], n: u8, f: u8) -> Option<Tables<'a>>
+        ensures { MatchOption result (WholeTables n f old.now new.now → ⊥) (λ t. (t.old.now ≡ old.now) × (t.new.now ≡ new.now) × (t.switches ≡ n) × (t.flows ≡ f)) }
+    {
+        let size = usize::from(n) * usize::from(f);
+        if n > 64 || old.len() < size || new.len() < size {
+            return None;
         }
+        Some(Tables {
+            old,
+            new,
+            switches: n,
+            flows: f,
+        })
     }
-    set
+
+    // Whether the two rows of switch s differ.
+    fn moves(&self, s: u8) -> bool
+        requires { s < self.now.switches }
+        ensures { result ≡ rows_differ self.now.flows self.now.old.now self.now.new.now s }
+    {
+        row(self.old, self.flows, s) != row(self.new, self.flows, s)
+    }
+
+    // The set of the switches whose rows differ.
+    pub fn movers(&self) -> u64
+        ensures { MoverSet self.now.switches self.now.flows self.now.old.now self.now.new.now result }
+    {
+        let mut set = 0;
+        for s in 0..self.switches {
+            if self.moves(s) {
+                set = sets::with(set, s);
+            }
+        }
+        set
+    }
 }
