@@ -1,5 +1,5 @@
 -- The first fault of pieces that are joined, and of a section: a count, and then the records that it counts.
-use Rattle.std.proofs.Common.{◌≡◌, ℕ, zero, suc, ◌+◌, ◌<◌, List, [], ◌∷◌, ◌++◌, map, length, Some, None, Option, sym, refl, ap, ◌∙◌, subst, arith}
+use Rattle.std.proofs.Common.{◌≡◌, ℕ, zero, suc, ◌+◌, ◌<◌, List, [], ◌∷◌, ◌++◌, map, Some, None, Option, sym, refl, ap, ◌∙◌, arith}
 use Rattle.std.specs.List.{range_with_len}
 use Rattle.std.proofs.lemmas.List.FromFn.{map-range_with_len_more}
 use Rattle.faults.specs.declared.Fault.{Fault}
@@ -51,25 +51,6 @@ item_fails n head item i m e h less before here =
 
 pub all_pass : (n : ℕ) (head : Piece) (item : ℕ → Piece) (m : ℕ) → None ≡ wrong n head → Clear n item m → None ≡ first_wrong n (counted head item m)
 all_pass n head item m h all = sym all ∙ ap (λ o. or_later o (first_wrong n (map item (range_with_len 0 m)))) h
-
--- The same for a reader of a section, where bs are the bytes at its start, ms those after its count and ks those before its record i: all one list.
-module _ (head : List ℕ → Piece) (item : List ℕ → ℕ → Piece) (count : List ℕ → ℕ) where
-  pub section_count : (bs : List ℕ) (e : Fault) → Some e ≡ wrong (length bs) (head bs) → Some e ≡ first_wrong (length bs) (counted (head bs) (item bs) (count bs))
-  section_count bs e h = count_fails (length bs) (head bs) (item bs) (count bs) e h
-
-  pub section_item : (bs ms ks : List ℕ) (i : ℕ) (e : Fault) → ms ≡ bs → ks ≡ ms → None ≡ wrong (length bs) (head bs) → i < count bs → Clear (length ms) (item ms) i → Some e ≡ wrong (length ks) (item ks i) → Some e ≡ first_wrong (length bs) (counted (head bs) (item bs) (count bs))
-  section_item bs ms ks i e m k h less before here =
-      item_fails (length bs) (head bs) (item bs) i (count bs) e h less
-      (subst (λ x. Clear (length x) (item x) i) m before)
-      (subst (λ x. Some e ≡ wrong (length x) (item x i)) (k ∙ m) here)
-
-  pub section_more : (ms ks : List ℕ) (i : ℕ) → ks ≡ ms → Clear (length ms) (item ms) i → None ≡ wrong (length ks) (item ks i) → Clear (length ms) (item ms) (i + 1)
-  section_more ms ks i k before here = clear_more (length ms) (item ms) i before (subst (λ x. None ≡ wrong (length x) (item x i)) k here)
-
-  pub section_pass : (bs ms : List ℕ) (i : ℕ) → ms ≡ bs → i ≡ count bs → None ≡ wrong (length bs) (head bs) → Clear (length ms) (item ms) i → None ≡ first_wrong (length bs) (counted (head bs) (item bs) (count bs))
-  section_pass bs ms i m end h before =
-      all_pass (length bs) (head bs) (item bs) (count bs) h
-      (subst (λ j. Clear (length bs) (item bs) j) end (subst (λ x. Clear (length x) (item x) i) m before))
 
 -- What is left of a sheet's pieces from each section on.
 abbrev pub closing : List ℕ → List Piece

@@ -50,9 +50,13 @@ test_of k b = record { kind = k; passes = b } ∷ []
 abbrev pub piece : Section → ℕ → ℕ → FaultKind → Bool → Piece
 piece s p k kind passes = record { from = p; size = k; section = s; tests = test_of kind passes }
 
+-- the count at place p, from 1 to most
+abbrev pub counts_up_to : List ℕ → Section → FaultKind → ℕ → ℕ → Piece
+counts_up_to bs c kind most p = piece c p 1 kind (in_range most (byte_at bs p))
+
 -- the number of switches
 abbrev pub switch_count : List ℕ → Piece
-switch_count bs = piece A 0 1 SwitchCount (in_range 64 (switches bs))
+switch_count bs = counts_up_to bs A SwitchCount 64 0
 
 -- the links of switch s
 abbrev pub link_mask : List ℕ → ℕ → Piece
@@ -60,7 +64,7 @@ link_mask bs s = piece A (links_from s) 8 LinkMask (links_fit (switches bs) s (l
 
 -- the number of flows
 abbrev pub flow_count : List ℕ → Piece
-flow_count bs = piece B (flows_from bs) 1 FlowCount (in_range 8 (flows bs))
+flow_count bs = counts_up_to bs B FlowCount 8 (flows_from bs)
 
 -- the pair of ingress and exit at place p
 abbrev pub flow_ends : List ℕ → ℕ → Piece

@@ -1,13 +1,44 @@
 // A sheet, and the place of the next byte to read. Reading goes by layers, each of which tells the first fault of what it reads: byte, record, section, sheet.
-ghost use Rattle.std.specs.Prelude.{◌≤◌, length};
+ghost use Rattle.std.specs.Prelude.{◌≡◌, ◌≤◌, ℕ, List, [], length};
+ghost use Rattle.sheet.specs.Layout.{switches, flows};
+
+use std::marker::{Brand, PhantomData};
 
 mod items;
 mod sections;
 pub mod whole;
 
+// A name for one sheet, by which the types below say whose bytes and whose counts they hold. No value of it is ever made; whoever begins to read a sheet picks `bytes` in the proof of the call.
+pub trait Sheet: Copy {
+    ghost bytes: { List ℕ };
+}
+
+impl Sheet for Brand {
+    ghost bytes = { [] };
+}
+
 #[derive(Drop)]
-pub struct Reader<'a> {
+pub struct Reader<'a, S: Sheet> {
     sheet: &'a [u8],
     at: usize,
+    of: PhantomData<S>,
+    ghost whole: { sheet.now ≡ S.bytes },
     ghost inside: { at ≤ length sheet.now },
+}
+
+// The number of the sheet's switches.
+#[derive(Drop)]
+pub struct Switches<S: Sheet> {
+    count: u8,
+    of: PhantomData<S>,
+    ghost read: { count ≡ switches S.bytes },
+    ghost few: { count ≤ 64 },
+}
+
+// The number of its flows.
+#[derive(Drop)]
+pub struct Flows<S: Sheet> {
+    count: u8,
+    of: PhantomData<S>,
+    ghost read: { count ≡ flows S.bytes },
 }

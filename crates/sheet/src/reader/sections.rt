@@ -1,69 +1,81 @@
 // Sections, each a count and then its records.
-ghost use Rattle.std.specs.Prelude.{◌≡◌, ◌<◌, ◌≤◌, IfOk};
-ghost use Rattle.sheet.specs.Layout.{switches, flows_from, flows, ends_from, mask_from, sheet_end};
+ghost use Rattle.std.specs.Prelude.{◌≡◌, ◌<◌, ◌≤◌, IfOk, OnOk};
+ghost use Rattle.sheet.specs.Layout.{switches, flows_from, flows, ends_from, row_from, mask_from, table_at, sheet_end};
 ghost use Rattle.sheet.specs.Pieces.{section_a, section_b, table_section, needed_section, no_more};
-ghost use Rattle.sheet.specs.Reads.{sheet_bytes, ToldOf, TellsFirst, Going, Passing, TableRead};
+ghost use Rattle.sheet.specs.Reads.{ToldOf, TellsFirst};
 
-use crate::reader::Reader;
+use crate::reader::{Flows, Reader, Sheet, Switches};
 use crate::tested::tested;
 use faults::{Fault, FaultKind, Section};
+use std::marker::PhantomData;
 
-impl<'a> Reader<'a> {
+// The most switches and flows that a sheet can have.
+const MOST_SWITCHES: u8 = 64;
+
+const MOST_FLOWS: u8 = 8;
+
+impl<'a, S: Sheet> Reader<'a, S> {
     // Section A: the number of switches, and the links of each.
-    pub(super) fn section_a(&mut self) -> Result<u8, Fault>
+    pub(super) fn section_a(&mut self) -> Result<Switches<S>, Fault>
         requires { self.old.at ≡ 0 }
-        ensures kept { sheet_bytes self.new ≡ sheet_bytes self.old }
-        ensures tells { TellsFirst (sheet_bytes self.old) (section_a (sheet_bytes self.old)) result }
-        ensures goes { Passing self.new (flows_from (sheet_bytes self.old)) (switches (sheet_bytes self.old)) result }
-        ensures few { IfOk result (λ n. n ≤ 64) }
+        ensures tells { TellsFirst S.bytes (section_a S.bytes) result }
+        ensures goes { OnOk result (self.new.at ≡ flows_from S.bytes) }
     {
-        let n = self.switch_count()?;
-        for s in 0..n {
-            self.link_mask(n, s)?;
+        let count = self.count(Section::A, FaultKind::SwitchCount, MOST_SWITCHES)?;
+        let n = Switches {
+            count,
+            of: PhantomData,
+        };
+        for s in 0..count {
+            self.link_mask(&n, s)?;
         }
         Ok(n)
     }
 
     // Section B: the number of flows, and the ends of each.
-    pub(super) fn section_b(&mut self, n: u8) -> Result<u8, Fault>
-        requires { (self.old.at ≡ flows_from (sheet_bytes self.old)) × (n ≡ switches (sheet_bytes self.old)) }
-        ensures kept { sheet_bytes self.new ≡ sheet_bytes self.old }
-        ensures tells { TellsFirst (sheet_bytes self.old) (section_b (sheet_bytes self.old)) result }
-        ensures goes { Passing self.new (ends_from (sheet_bytes self.old) (flows (sheet_bytes self.old))) (flows (sheet_bytes self.old)) result }
+    pub(super) fn section_b(&mut self, n: &Switches<S>) -> Result<Flows<S>, Fault>
+        requires { self.old.at ≡ flows_from S.bytes }
+        ensures tells { TellsFirst S.bytes (section_b S.bytes) result }
+        ensures goes { OnOk result (self.new.at ≡ ends_from S.bytes (flows S.bytes)) }
     {
-        let f = self.flow_count()?;
-        for _ in 0..f {
+        let count = self.count(Section::B, FaultKind::FlowCount, MOST_FLOWS)?;
+        for _ in 0..count {
             self.flow_ends(n)?;
         }
-        Ok(f)
+        Ok(Flows {
+            count,
+            of: PhantomData,
+        })
     }
 
     // Section C or D: the row of each switch. Gives the rows.
-    pub(super) fn table(&mut self, section: Section, n: u8, f: u8) -> Result<&'a [u8], Fault>
-        requires counts { (n ≡ switches (sheet_bytes self.old)) × (f ≡ flows (sheet_bytes self.old)) }
-        requires behind { flows_from (sheet_bytes self.old) ≤ self.old.at }
-        ensures kept { sheet_bytes self.new ≡ sheet_bytes self.old }
-        ensures tells { TellsFirst (sheet_bytes self.old) (table_section (sheet_bytes self.old) section self.old.at) result }
-        ensures goes { TableRead self.old self.new result }
+    pub(super) fn table(
+        &mut self,
+        section: Section,
+        n: &Switches<S>,
+        f: &Flows<S>,
+    ) -> Result<&'a [u8], Fault>
+        requires { flows_from S.bytes ≤ self.old.at }
+        ensures tells { TellsFirst S.bytes (table_section S.bytes section self.old.at) result }
+        ensures goes { OnOk result (self.new.at ≡ row_from S.bytes self.old.at (switches S.bytes)) }
+        ensures reads { IfOk result (λ t. t.now ≡ table_at S.bytes self.old.at) }
     {
         let sheet = self.sheet;
-        self.same_count(section, n)?;
+        self.same_count(section, n.count)?;
         let from = self.at;
-        for s in 0..n {
+        for s in 0..n.count {
             self.switch_row(section, f, s)?;
         }
         Ok(&sheet[from..self.at])
     }
 
     // Section E: the needed switches of each flow.
-    pub(super) fn needed(&mut self, n: u8, f: u8) -> Result<(), Fault>
-        requires counts { (n ≡ switches (sheet_bytes self.old)) × (f ≡ flows (sheet_bytes self.old)) }
-        ensures kept { sheet_bytes self.new ≡ sheet_bytes self.old }
-        ensures tells { TellsFirst (sheet_bytes self.old) (needed_section (sheet_bytes self.old) self.old.at) result }
-        ensures goes { Going self.new (mask_from self.old.at f) result }
+    pub(super) fn needed(&mut self, n: &Switches<S>, f: &Flows<S>) -> Result<(), Fault>
+        ensures tells { TellsFirst S.bytes (needed_section S.bytes self.old.at) result }
+        ensures goes { OnOk result (self.new.at ≡ mask_from self.old.at (flows S.bytes)) }
     {
-        self.same_count(Section::E, f)?;
-        for _ in 0..f {
+        self.same_count(Section::E, f.count)?;
+        for _ in 0..f.count {
             self.needed_mask(n)?;
         }
         Ok(())
@@ -71,14 +83,10 @@ impl<'a> Reader<'a> {
 
     // No byte follows section E.
     pub(super) fn no_more(&self) -> Result<(), Fault>
-        requires { self.now.at ≡ sheet_end (sheet_bytes self.now) }
-        ensures { ToldOf (sheet_bytes self.now) (no_more (sheet_bytes self.now)) result }
+        requires { self.now.at ≡ sheet_end S.bytes }
+        ensures { ToldOf S.bytes (no_more S.bytes) result }
     {
-        tested(
-            self.sheet.len() <= self.at,
-            FaultKind::BytesFollow,
-            Section::E,
-            self.at,
-        )
+        let fault = self.fault(FaultKind::BytesFollow, Section::E);
+        tested(self.sheet.len() <= self.at, fault)
     }
 }

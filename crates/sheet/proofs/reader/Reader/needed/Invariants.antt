@@ -1,11 +1,12 @@
-use Rattle.std.proofs.Common.{◌≡◌, ◌+◌, ◌*◌, length}
+use Rattle.std.proofs.Common.{◌≡◌, length}
+use Rattle.sheet.specs.Layout.{mask_from}
 use Rattle.sheet.specs.Pieces.{needed_mask}
-use Rattle.sheet.specs.Reads.{sheet_bytes}
 use Rattle.sheet.proofs.Firsts.{Clear}
 use Rattle.sheet.proofs.reader.Reader.needed.Given as goal
 
+-- the reader stands behind the masks of the flows so far, and these pass
 abbrev pub invariant-loop : goal.invariant-loop
-invariant-loop l =
-    (sheet_bytes l.self ≡ sheet_bytes l.initial.self)
-    × (l.self.at ≡ l.initial.self.at + 8 * l.counter)
-    × Clear (length (sheet_bytes l.initial.self)) (λ j. needed_mask (sheet_bytes l.initial.self) (l.initial.self.at + 8 * j)) l.counter
+invariant-loop g l =
+    let bs = g.S.Sheet.bytes in
+    let at = l.fn.self.at in
+    (l.self.at ≡ mask_from at l.counter) × Clear (length bs) (λ j. needed_mask bs (mask_from at j)) l.counter

@@ -1,54 +1,48 @@
 use Rattle.std.proofs.Common.{◌≡◌, ℕ, ◌<◌, List, length, Some, None, ap, ◌∙◌, subst, arith}
 use Rattle.std.proofs.lemmas.Result.{err_from_is_err_and}
-use Rattle.sheet.specs.Layout.{flows_from, flows, ends_from}
-use Rattle.sheet.specs.Pieces.{Piece, section_b, flow_count, flow_ends, wrong}
-use Rattle.sheet.specs.Reads.{sheet_bytes}
-use Rattle.sheet.proofs.Firsts.{section_count, section_item, section_more, section_pass}
+use Rattle.faults.specs.declared.FaultKind.TheVariants.{FlowCount}
+use Rattle.faults.specs.declared.Section.TheVariants.{B}
+use Rattle.sheet.specs.Layout.{byte_at, flows, ends_from}
+use Rattle.sheet.specs.Pieces.{Piece, wrong, section_b, counts_up_to, flow_count, flow_ends}
+use Rattle.sheet.proofs.Firsts.{Clear, count_fails, item_fails, clear_more, all_pass}
 use Rattle.sheet.proofs.reader.Reader.section_b.Goals as goal
 
 abbrev ends : List ℕ → ℕ → Piece
 ends bs j = flow_ends bs (ends_from bs j)
 
-pub returns-in_err-f : goal.returns-in_err-f
+pub returns-in_err-count : goal.returns-in_err-count
 unfolding section_b
-returns-in_err-f c =
-    let t = c.in_err-f.ensures in
+returns-in_err-count g c =
+    let bs = g.S.Sheet.bytes in
+    let told = subst (λ at. Some c.in_err-count.field-0.0 ≡ wrong (length bs) (counts_up_to bs B FlowCount 8 at)) c.requires c.in_err-count.ensures.tells in
     let p = err_from_is_err_and c.from_residual.result c.from_residual.ensures.1 in
-    rw (p.1, p.2) record { kept = t.kept; tells = section_count flow_count ends flows (sheet_bytes c.args.self.now) c.in_err-f.field-0.0 t.tells; goes = tt }
+    rw (p.1, p.2) record { tells = count_fails (length bs) (flow_count bs) (ends bs) (flows bs) _ told; goes = tt }
 
 pub returns-in_err-flow_ends : goal.returns-in_err-flow_ends
 unfolding section_b
-returns-in_err-flow_ends c =
-    let t = c.in_err-flow_ends.ensures in
-    let f = c.in_ok-f.ensures in
-    let i = c.loop.invariant in
+returns-in_err-flow_ends g c =
+    let bs = g.S.Sheet.bytes in
+    let count = c.in_ok-count.ensures in
+    let told = subst (λ at. None ≡ wrong (length bs) (counts_up_to bs B FlowCount 8 at)) c.requires count.tells in
+    let here = subst (λ at. Some c.in_err-flow_ends.field-0.0 ≡ wrong (length bs) (flow_ends bs at)) c.loop.invariant.0 c.in_err-flow_ends.ensures.tells in
+    let less : c.loop.counter < flows bs = omega (arith, count.reads.0 ∙ ap (byte_at bs) c.requires) in
     let p = err_from_is_err_and c.from_residual-in_err-flow_ends.result c.from_residual-in_err-flow_ends.ensures.1 in
-    let less : c.loop.counter < flows (sheet_bytes c.args.self.now) = omega (arith, f.goes.1) in
-    let here = subst (λ x. Some c.in_err-flow_ends.field-0.0 ≡ wrong (length (sheet_bytes c.loop.self)) (flow_ends (sheet_bytes c.loop.self) x)) i.1 t.tells in
-    rw (p.1, p.2) record {
-      kept = t.kept ∙ i.0 ∙ f.kept;
-      tells = section_item flow_count ends flows (sheet_bytes c.args.self.now) (sheet_bytes c.flow_count.new.self) (sheet_bytes c.loop.self) c.loop.counter c.in_err-flow_ends.field-0.0 f.kept i.0 f.tells less i.2 here;
-      goes = tt;
-    }
+    rw (p.1, p.2) record { tells = item_fails (length bs) (flow_count bs) (ends bs) c.loop.counter (flows bs) _ told less c.loop.invariant.1 here; goes = tt }
 
 pub loop-preserved : goal.loop-preserved
-loop-preserved c =
-    let t = c.in_ok-flow_ends.ensures in
-    let i = c.loop.invariant in
-    let here = subst (λ x. None ≡ wrong (length (sheet_bytes c.loop.self)) (flow_ends (sheet_bytes c.loop.self) x)) i.1 t.tells in (
-      t.kept ∙ i.0,
-      omega (arith, t.goes, i.1, ap flows_from t.kept),
-      section_more flow_count ends flows (sheet_bytes c.flow_count.new.self) (sheet_bytes c.loop.self) c.loop.counter i.0 i.2 here,
-    )
+loop-preserved g c =
+    let bs = g.S.Sheet.bytes in
+    let here = subst (λ at. None ≡ wrong (length bs) (flow_ends bs at)) c.loop.invariant.0 c.in_ok-flow_ends.ensures.tells in
+    (omega (arith, c.in_ok-flow_ends.ensures.goes, c.loop.invariant.0), clear_more (length bs) (ends bs) c.loop.counter c.loop.invariant.1 here)
 
 pub returns : goal.returns
 unfolding section_b
-returns c =
-    let f = c.in_ok-f.ensures in
-    let i = c.loop.invariant in
-    let end : c.loop.counter ≡ flows (sheet_bytes c.args.self.now) = omega (arith, f.goes.1) in
+returns g c =
+    let bs = g.S.Sheet.bytes in
+    let count = c.in_ok-count.ensures in
+    let told = subst (λ at. None ≡ wrong (length bs) (counts_up_to bs B FlowCount 8 at)) c.requires count.tells in
+    let end : c.loop.counter ≡ flows bs = omega (arith, count.reads.0 ∙ ap (byte_at bs) c.requires) in
     record {
-      kept = i.0 ∙ f.kept;
-      tells = section_pass flow_count ends flows (sheet_bytes c.args.self.now) (sheet_bytes c.flow_count.new.self) c.loop.counter f.kept end f.tells i.2;
-      goes = (omega (arith, i.1, end, ap flows_from (i.0 ∙ f.kept)), f.goes.1);
+      tells = all_pass (length bs) (flow_count bs) (ends bs) (flows bs) told (subst (Clear (length bs) (ends bs)) end c.loop.invariant.1);
+      goes = omega (arith, c.loop.invariant.0, end);
     }
