@@ -1,13 +1,13 @@
 -- What is told of a sheet, as bytes. Numbers are decimal without leading zeros, one blank (32) parts words, and byte 10 ends each line.
 use Rattle.std.specs.Prelude.{ℕ, List, [], ◌∷◌, ◌++◌, Some, None, codes, decimal, Option}
 use Rattle.faults.specs.declared.Fault.{Fault}
-use Rattle.faults.specs.Faults.{number_of, letter_of}
+use Rattle.faults.specs.Faults.{fault_text}
 use Rattle.sheet.specs.Layout.{switches, flows, movers_of}
 use Rattle.sheet.specs.Pieces.{first_fault}
 
 -- a fault: "refused", its number, its section's letter and its place
 abbrev pub refused_text : Fault → List ℕ
-refused_text e = codes "refused " ++ (decimal (number_of e.kind) ++ (codes " " ++ ((letter_of e.section ∷ []) ++ (codes " " ++ (decimal e.place ++ codes "\n")))))
+refused_text e = codes "refused " ++ (fault_text e ++ codes "\n")
 
 -- the movers, each after one blank
 abbrev pub movers_text : List ℕ → List ℕ

@@ -1,43 +1,37 @@
 // What there is to tell of a sheet, as text.
 #![tactic(auto)]
 
-ghost use Rattle.std.specs.Prelude.{◌≡◌, ℕ, List, ◌++◌, take, IfOk, string_bytes, codes, decimal, OnOk};
+ghost use Rattle.std.specs.Prelude.{◌≡◌, ℕ, List, take, Some, IfOk, string_bytes};
 ghost use Rattle.sets.specs.Sets.{members};
 ghost use Rattle.info.specs.Texts.{refused_text, movers_text, summary_text, info_text, enough_bytes};
 
 use cases::{Case, read};
 use faults::Fault;
 use std::alloc::{AllocError, Global};
+use std::fmt;
 
 // The line for a fault.
 pub fn refused(heap: Global, fault: &Fault) -> Result<String, AllocError>
     ensures { IfOk result (λ t. string_bytes t ≡ refused_text fault.now) }
 {
-    let number = fault.number();
-    let letter = fault.letter();
-    let place = fault.place;
-    format!(in heap; "refused {number} {letter} {place}\n")
+    format!(in heap; "refused {fault}\n")
 }
 
-// One blank more, and a number.
-fn add_word(heap: Global, text: &mut String, s: u8) -> Result<(), AllocError>
-    ensures { OnOk result (string_bytes text.new ≡ string_bytes text.old ++ (codes " " ++ decimal s)) }
-{
-    let word = format!(in heap; " {s}")?;
-    text.push_str(word.as_str())
-}
+// A set of switches, told by its members, rising, each after one blank.
+#[derive(Clone, Copy)]
+struct Members(u64);
 
-// The switches of a set, rising, each after one blank.
-fn switch_list(heap: Global, set: u64) -> Result<String, AllocError>
-    ensures { IfOk result (λ t. string_bytes t ≡ movers_text (members set)) }
-{
-    let mut text = String::new(heap);
-    for s in 0..64u8 {
-        if sets::has(set, s) {
-            add_word(heap, &mut text, s)?;
+impl fmt::Display for Members {
+    ghost output = { λ set. Some (movers_text (members set.0)) };
+
+    fn fmt<W: fmt::Write>(&self, f: &mut fmt::Formatter<W>) -> fmt::Result {
+        for s in 0..64u8 {
+            if sets::has(self.0, s) {
+                write!(f, " {s}")?;
+            }
         }
+        Ok(())
     }
-    Ok(text)
 }
 
 // The lines for a lawful sheet.
@@ -46,7 +40,7 @@ pub fn summary(heap: Global, case: &Case) -> Result<String, AllocError>
 {
     let switches = case.switches();
     let flows = case.flows();
-    let movers = switch_list(heap, case.movers())?;
+    let movers = Members(case.movers());
     format!(in heap; "switches {switches}\nflows {flows}\nmovers{movers}\n")
 }
 

@@ -2,36 +2,33 @@
 #![tactic(auto)]
 
 use info::describe;
+use std::env::Env;
+use std::fs::Files;
 use std::{env, fs};
 
-// What is told of one sheet, under a heading.
-fn judge(rt: &HostRuntime, name: &str, sheet: &[u8]) -> anyhow::Result<()> {
-    let text = describe(rt.alloc(), sheet)?;
-    let length = sheet.len();
-    print!(rt; "{name} {length}\n{text}")?;
+// What is told of each beginning of the sheet that is long enough, under a heading.
+fn judge_from<R: Print + AllocGlobal>(
+    rt: &R,
+    name: &str,
+    sheet: &[u8],
+    shortest: usize,
+) -> anyhow::Result<()> {
+    for length in shortest..=sheet.len() {
+        let text = describe(rt.alloc(), &sheet[..length])?;
+        print!(rt; "{name} {length}\n{text}")?;
+    }
     Ok(())
 }
 
-// The same for each beginning of the sheet.
-fn judge_cuts(rt: &HostRuntime, name: &str, sheet: &[u8]) -> anyhow::Result<()> {
-    for length in 0..sheet.len() {
-        judge(rt, name, &sheet[0..length])?;
-    }
-    judge(rt, name, sheet)
-}
-
-fn run(rt: &HostRuntime) -> anyhow::Result<()> {
+fn run<R: Print + Env + Files + AllocGlobal>(rt: &R) -> anyhow::Result<()> {
     let mut cut = false;
     for word in env::args(rt)?.skip(1) {
         if word.as_str() == "cut" {
             cut = true;
         } else {
             let sheet = fs::read(rt, word.as_str())?;
-            if cut {
-                judge_cuts(rt, word.as_str(), sheet.as_slice())?;
-            } else {
-                judge(rt, word.as_str(), sheet.as_slice())?;
-            }
+            let shortest = if cut { 0 } else { sheet.len() };
+            judge_from(rt, word.as_str(), sheet.as_slice(), shortest)?;
             cut = false;
         }
     }
