@@ -37,21 +37,16 @@ pub trait Policy {
     ghost tells: { (p : Self) (flow : ℕ) (xs : List ℕ) → IsTrue (grants p (fold (step p) (start p flow) xs)) ↔ allowed p flow xs };
 }
 
-// The mark of a flow after all switches of a list in turn.
-fn mark_after<P: Policy>(policy: &P, flow: u8, list: &[u8]) -> P::Mark
-    ensures { result ≡ fold (P.step policy.now) (P.start policy.now flow) list.now }
-{
-    let first = policy.begin(flow);
-    list.iter()
-        .fold(first, |mark, &switch| policy.pass(mark, switch))
-}
-
 // Whether the policy allows the list of switches for the flow. A policy that keeps no mark of the flow has one answer to all lists: it allows every list or none.
 pub fn judge<P: Policy>(policy: &P, flow: u8, list: &[u8]) -> bool
     ensures meant { IsTrue result ↔ P.allowed policy.now flow list.now }
     ensures unmarked { KeepsNoMark (P.step policy.now) (P.start policy.now flow) → (xs : List ℕ) → IsTrue result ↔ P.allowed policy.now flow xs }
 {
-    policy.allows(mark_after(policy, flow, list))
+    let first = policy.begin(flow);
+    let mark = list
+        .iter()
+        .fold(first, |mark, &switch| policy.pass(mark, switch));
+    policy.allows(mark)
 }
 
 // Allows every list.
@@ -83,7 +78,7 @@ impl Policy for Open {
 }
 
 // Allows what both of its policies allow.
-#[derive(Debug, Clone, Copy, PartialEq, Eq)]
+#[derive(Debug, Clone, Copy, PartialEq, Eq, Hash)]
 pub struct Both<P, Q> {
     pub first: P,
     pub second: Q,

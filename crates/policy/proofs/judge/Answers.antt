@@ -1,3 +1,5 @@
+use Rattle.std.proofs.Common.{arith}
+use Rattle.std.proofs.lemmas.Grind.{common_steps}
 use Rattle.std.proofs.lemmas.List.Folds.{fold_stays}
 use Rattle.policy.proofs.judge.Goals as goal
 
@@ -7,4 +9,4 @@ returns-clause-unmarked g c still xs =
     let p = g.P.Policy in
     let self = c.args.policy.now in
     let same = fold_stays (p.step self) (p.start self c.args.flow) still in
-    rw (c.allows.ensures, c.mark_after.ensures, same c.args.list.now, ← same xs) (g.met.P.Policy.tells self c.args.flow xs)
+    grind (arith, common_steps, same c.args.list.now, same xs, g.met.P.Policy.tells self c.args.flow xs)
