@@ -1,5 +1,5 @@
 -- The marks of an automaton: the set of the states that runs over the switches so far can be in. Which lists are allowed does not rest on these words: the policy's law ties them to its meaning.
-use Rattle.std.specs.Prelude.{ℕ, ◌^◌, Bool, cond, not, ◌&&◌, List, fold, ◌==◌, bit_and, bit_or, nat_lt}
+use Rattle.std.specs.Prelude.{ℕ, ◌^◌, Bool, if◌then◌else◌, not, ◌&&◌, List, fold, ◌==◌, bit_and, bit_or, nat_lt}
 use Rattle.sets.specs.Sets.{bit}
 use Rattle.automata.specs.declared.Transition.{Transition}
 
@@ -13,7 +13,7 @@ is_taken t m s = t.switch == s && (is_state m t.from && nat_lt t.to 32)
 
 -- the set with the state that the transition leads to, where it is taken
 abbrev pub with_reached : ℕ → ℕ → ℕ → Transition → ℕ
-with_reached m s next t = cond (is_taken t m s) (bit_or next (2 ^ t.to)) next
+with_reached m s next t = if is_taken t m s then bit_or next (2 ^ t.to) else next
 
 -- the states that transitions taken at s from states of m lead to
 abbrev pub next_states : List Transition → ℕ → ℕ → ℕ

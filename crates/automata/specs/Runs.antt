@@ -1,12 +1,11 @@
 -- Runs of an automaton over a list of switches.
-use Rattle.std.specs.Prelude.{◌≡◌, ℕ, suc, ◌<◌, List, length, slice_index}
-use Rattle.std.specs.List.{ContainsAt as Has}
+use Rattle.std.specs.Prelude.{◌≡◌, ℕ, suc, ◌<◌, List, length, slice_index, Contains}
 use Rattle.sets.specs.Sets.{InSet}
 use Rattle.automata.specs.declared.Transition.{Transition}
 
 -- one of the transitions leads from state q at the switch s to state r; states are below 32
 pub record Leads (ts : List Transition) (q s r : ℕ) : Type 0 where
-  pub listed : Has ts (record { from = q; switch = s; to = r })
+  pub listed : Contains ts (record { from = q; switch = s; to = r })
   pub from_state : q < 32
   pub to_state : r < 32
 

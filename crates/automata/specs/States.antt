@@ -1,11 +1,12 @@
 -- The proof of a law, which has to stand here: nothing to believe. A mark is the set of the states that runs can be in.
-use Rattle.std.specs.Prelude.{◌≡◌, ℕ, zero, suc, ◌^◌, ◌<◌, true, ◌⊎◌, List, [], ◌∷◌, length, Decides, fold, bit_and, bit_or, slice_index, refl}
+use Rattle.std.specs.Prelude.{◌≡◌, ℕ, zero, suc, ◌^◌, ◌<◌, true, ◌⊎◌, List, [], ◌∷◌, length, IsTrue, ◌↔◌, fold, bit_and, bit_or, slice_index, refl}
 use Rattle.std.proofs.Common.{sym, ap, ap₂, ◌∙◌, inl, inr, arith}
 use Rattle.std.proofs.lemmas.Bool.{cases_Bool, both_ways, cond-true, cond-false, eqb-false, ne_eqb, not-true, not_from_false}
 use Rattle.std.proofs.lemmas.Bool.Decides.{Decides-and, Decides-eqb, Decides-ltb}
+use Rattle.std.proofs.lemmas.List.Elements.{Contains-append_right}
 use Rattle.sets.specs.Sets.{bit, InSet, Exactly}
 use Rattle.sets.proofs.Laws.{none_in_zero, some_member, and_members, with_members, member_eqb}
-use Rattle.policy.proofs.Members.{has_none, has_here, has_later, has_cases}
+use Rattle.policy.proofs.Members.{contains_none, contains_here, contains_cases}
 use Rattle.automata.specs.declared.Transition.{Transition}
 use Rattle.automata.specs.Runs.{Leads, Accepts}
 use Rattle.automata.specs.Marks.{is_taken, with_reached, next_states, some_in}
@@ -23,7 +24,7 @@ pub record Goes (t : Transition) (m s : ℕ) : Type 0 where
   pub member : InSet m t.from
   pub to_state : t.to < 32
 
-taken : (t : Transition) (m s : ℕ) → Decides (is_taken t m s) (Goes t m s)
+taken : (t : Transition) (m s : ℕ) → IsTrue (is_taken t m s) ↔ Goes t m s
 taken t m s =
     let d = Decides-and _ _ (Decides-eqb t.switch s) (Decides-and _ _ (Decides-and _ _ (Decides-ltb t.from 32) (member_eqb m t.from)) (Decides-ltb t.to 32)) in (
       (λ e. let h = d.0 e in record { here = h.0; from_state = h.1.0.0; member = h.1.0.1; to_state = h.1.1 }),
@@ -35,19 +36,19 @@ source_later : (t : Transition) (ts : List Transition) (m s r : ℕ) → Source 
 source_later t ts m s r k = record {
   state = k.state;
   member = k.member;
-  leads = record { listed = has_later t ts _ k.leads.listed; from_state = k.leads.from_state; to_state = k.leads.to_state };
+  leads = record { listed = Contains-append_right (t ∷ []) ts _ k.leads.listed; from_state = k.leads.from_state; to_state = k.leads.to_state };
 }
 
 source_here : (t : Transition) (ts : List Transition) (m s r : ℕ) → Goes t m s → t.to ≡ r → Source (t ∷ ts) m s r
 source_here t ts m s r g e = record {
   state = t.from;
   member = g.member;
-  leads = record { listed = has_here t ts _ (ap₂ (λ x y. record { from = t.from; switch = x; to = y }) g.here e); from_state = g.from_state; to_state = omega (arith, g.to_state, e) };
+  leads = record { listed = contains_here t ts _ (ap₂ (λ x y. record { from = t.from; switch = x; to = y }) g.here e); from_state = g.from_state; to_state = omega (arith, g.to_state, e) };
 }
 
 source_cases : (t : Transition) (ts : List Transition) (m s r : ℕ) → Source (t ∷ ts) m s r → (Goes t m s × (t.to ≡ r)) ⊎ Source ts m s r
 source_cases t ts m s r k =
-    elim (has_cases t ts _ k.leads.listed) [
+    elim (contains_cases t ts _ k.leads.listed) [
       | inl e ↦
           let from : t.from ≡ k.state = ap (λ (x : Transition). x.from) e in
           let to : t.to ≡ r = ap (λ (x : Transition). x.to) e in
@@ -82,7 +83,7 @@ after_one t m s next =
 
 -- the set after all
 after_all : (ts : List Transition) (m s next : ℕ) → Exactly (fold (with_reached m s) next ts) (λ r. InSet next r ⊎ Source ts m s r)
-after_all [] m s next = record { each = λ r h. inl h; all = λ r h. elim h [ inl k ↦ k | inr k ↦ absurd (has_none _ k.leads.listed) ] }
+after_all [] m s next = record { each = λ r h. inl h; all = λ r h. elim h [ inl k ↦ k | inr k ↦ absurd (contains_none _ k.leads.listed) ] }
 after_all (t ∷ ts) m s next =
     let here = after_one t m s next in
     let rest = after_all ts m s (with_reached m s next t) in
@@ -148,5 +149,5 @@ module _ (ts : List Transition) (accepting : ℕ) where
         ends = ends;
       }
 
-  pub some_run : (start : ℕ) (xs : List ℕ) → Decides (some_in accepting (fold (next_states ts) start xs)) (Accepts ts start accepting xs)
+  pub some_run : (start : ℕ) (xs : List ℕ) → IsTrue (some_in accepting (fold (next_states ts) start xs)) ↔ Accepts ts start accepting xs
   some_run start xs = (sound xs start, complete xs start)

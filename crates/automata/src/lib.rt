@@ -1,8 +1,7 @@
 // The policy of a nondeterministic automaton that reads lists of switches.
 #![tactic(auto)]
 
-ghost use Rattle.std.specs.Prelude.{◌≡◌, ◌^◌, ◌<◌, List};
-ghost use Rattle.automata.specs.declared.Transition.{Transition as TransitionT};
+ghost use Rattle.std.specs.Prelude.{◌≡◌, ◌^◌, ◌<◌};
 ghost use Rattle.automata.specs.Marks.{is_state, is_taken, with_reached, next_states, some_in};
 ghost use Rattle.automata.specs.Runs.{Accepts};
 ghost use Rattle.automata.specs.States.{some_run};
@@ -13,45 +12,23 @@ use policy::Policy;
 const STATES: u8 = 32;
 
 // From one state at a switch to another. One that names a state above 31 is never taken.
-#[derive(Clone, Copy)]
+#[derive(Debug, Clone, Copy, PartialEq, Eq, Hash)]
 pub struct Transition {
     pub from: u8,
     pub switch: u8,
     pub to: u8,
 }
 
-// What an automaton has its transitions from. The automaton is generic in it, since an earlier checker made no proof of an impl with both a law and a lifetime.
-pub trait Transitions {
-    ghost listed: { Self → List TransitionT };
-
-    fn all(&self) -> &[Transition]
-        ensures { result.now ≡ listed self.now };
-}
-
-// A slice that the maker lends.
-impl<'a> Transitions for &'a [Transition] {
-    ghost listed = { λ ts. ts.now };
-
-    fn all(&self) -> &[Transition] {
-        *self
-    }
-}
-
-// Sets of states are masks: bit q stands for state q. Allows, for every flow, the lists that some run from a state of `start` to one of `accepting` reads.
-#[derive(Clone, Copy)]
-pub struct Automaton<T> {
-    pub transitions: T,
+// Sets of states are masks: bit q stands for state q. Allows, for every flow, the lists that some run from a state of `start` to one of `accepting` reads. The maker lends the transitions.
+#[derive(Debug, Clone, Copy, PartialEq, Eq, Hash)]
+pub struct Automaton<'a> {
+    pub transitions: &'a [Transition],
     pub start: u32,
     pub accepting: u32,
 }
 
-impl<'a> Automaton<&'a [Transition]> {
-    // An automaton over transitions that the maker lends.
-    pub fn new(
-        transitions: &'a [Transition],
-        start: u32,
-        accepting: u32,
-    ) -> Automaton<&'a [Transition]>
+impl<'a> Automaton<'a> {
+    pub fn new(transitions: &'a [Transition], start: u32, accepting: u32) -> Automaton<'a>
         ensures { (result.transitions.now ≡ transitions.now) × (result.start ≡ start) × (result.accepting ≡ accepting) }
     {
         Automaton {
@@ -99,33 +76,31 @@ fn with_reached(next: u32, t: &Transition, states: u32, switch: u8) -> u32
 fn reached(transitions: &[Transition], states: u32, switch: u8) -> u32
     ensures { result ≡ next_states transitions.now states switch }
 {
-    let mut next = 0;
-    for t in transitions {
-        next = with_reached(next, t, states, switch);
-    }
-    next
+    transitions
+        .iter()
+        .fold(0, |next, t| with_reached(next, t, states, switch))
 }
 
-impl<T: Transitions> Policy for Automaton<T> {
+impl<'a> Policy for Automaton<'a> {
     // The states that runs over the switches so far can be in.
     type Mark = u32;
 
     ghost start = { λ p _. p.start };
 
-    ghost step = { λ p states s. next_states (T.Transitions.listed p.transitions) states s };
+    ghost step = { λ p states s. next_states p.transitions.now states s };
 
     ghost grants = { λ p states. some_in p.accepting states };
 
-    ghost allowed = { λ p _ xs. Accepts (T.Transitions.listed p.transitions) p.start p.accepting xs };
+    ghost allowed = { λ p _ xs. Accepts p.transitions.now p.start p.accepting xs };
 
-    ghost tells = { λ p flow xs. some_run (T.Transitions.listed p.transitions) p.accepting p.start xs };
+    ghost tells = { λ p flow xs. some_run p.transitions.now p.accepting p.start xs };
 
     fn begin(&self, _flow: u8) -> u32 {
         self.start
     }
 
     fn pass(&self, mark: u32, switch: u8) -> u32 {
-        reached(self.transitions.all(), mark, switch)
+        reached(self.transitions, mark, switch)
     }
 
     fn allows(&self, mark: u32) -> bool {

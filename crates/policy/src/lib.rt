@@ -1,11 +1,11 @@
 // Policies: which lists of switches a flow may meet. A list is judged switch by switch, by a mark that is handed on.
 #![tactic(auto)]
 
-ghost use Rattle.std.specs.Prelude.{◌≡◌, ℕ, Bool, true, ◌&&◌, List, Decides, fold};
+ghost use Rattle.std.specs.Prelude.{◌≡◌, ℕ, Bool, true, ◌&&◌, List, IsTrue, ◌↔◌, fold};
 ghost use Rattle.policy.specs.Unmarked.{KeepsNoMark};
 ghost use Rattle.std.proofs.Common.{rules};
 ghost use Rattle.std.proofs.lemmas.Bool.Decides.{Decides-and};
-ghost use Rattle.policy.specs.Passing.{folded_pair};
+ghost use Rattle.policy.specs.Passing.{fold_pair};
 
 // Flows and switches are any bytes, and no method refuses. Only `allowed` is to be believed: the law ties the marks to it.
 pub trait Policy {
@@ -34,23 +34,23 @@ pub trait Policy {
         ensures { result ≡ grants self.now mark };
 
     // The mark after all switches of a list in turn gets a yes exactly when the list is allowed.
-    ghost tells: { (p : Self) (flow : ℕ) (xs : List ℕ) → Decides (grants p (fold (step p) (start p flow) xs)) (allowed p flow xs) };
+    ghost tells: { (p : Self) (flow : ℕ) (xs : List ℕ) → IsTrue (grants p (fold (step p) (start p flow) xs)) ↔ allowed p flow xs };
 }
 
 // Whether the policy allows the list of switches for the flow. A policy that keeps no mark of the flow has one answer to all lists: it allows every list or none.
 pub fn judge<P: Policy>(policy: &P, flow: u8, list: &[u8]) -> bool
-    ensures meant { Decides result (P.allowed policy.now flow list.now) }
-    ensures unmarked { KeepsNoMark (P.step policy.now) (P.start policy.now flow) → (xs : List ℕ) → Decides result (P.allowed policy.now flow xs) }
+    ensures meant { IsTrue result ↔ P.allowed policy.now flow list.now }
+    ensures unmarked { KeepsNoMark (P.step policy.now) (P.start policy.now flow) → (xs : List ℕ) → IsTrue result ↔ P.allowed policy.now flow xs }
 {
-    let mut mark = policy.begin(flow);
-    for switch in list {
-        mark = policy.pass(mark, *switch);
-    }
+    let first = policy.begin(flow);
+    let mark = list
+        .iter()
+        .fold(first, |mark, &switch| policy.pass(mark, switch));
     policy.allows(mark)
 }
 
 // Allows every list.
-#[derive(Clone, Copy)]
+#[derive(Debug, Clone, Copy, PartialEq, Eq, Hash, Default)]
 pub struct Open;
 
 impl Policy for Open {
@@ -78,7 +78,7 @@ impl Policy for Open {
 }
 
 // Allows what both of its policies allow.
-#[derive(Clone, Copy)]
+#[derive(Debug, Clone, Copy, PartialEq, Eq, Hash)]
 pub struct Both<P, Q> {
     pub first: P,
     pub second: Q,
@@ -98,7 +98,7 @@ impl<P: Policy, Q: Policy> Policy for Both<P, Q> {
     ghost tells = { λ p flow xs.
         let a = P.Policy in
         let b = Q.Policy in
-        rw (folded_pair (a.step p.first) (b.step p.second) xs (a.start p.first flow) (b.start p.second flow))
+        rw (fold_pair (a.step p.first) (b.step p.second) xs (a.start p.first flow) (b.start p.second flow))
         (Decides-and _ _ (P.Policy.tells p.first flow xs) (Q.Policy.tells p.second flow xs)) };
 
     fn begin(&self, flow: u8) -> (P::Mark, Q::Mark) {
@@ -113,6 +113,6 @@ impl<P: Policy, Q: Policy> Policy for Both<P, Q> {
     }
 
     fn allows(&self, mark: (P::Mark, Q::Mark)) -> bool {
-        self.first.allows(mark.0) & self.second.allows(mark.1)
+        self.first.allows(mark.0) && self.second.allows(mark.1)
     }
 }

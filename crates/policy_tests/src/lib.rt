@@ -1,7 +1,7 @@
 // Examples of policies. First what judging says of each kind, in the words of its meaning, as it follows from the contract of `judge`; then tables of lists with the answer to each, proved and run.
 #![tactic(auto)]
 
-ghost use Rattle.std.specs.Prelude.{◌≡◌, true, Decides};
+ghost use Rattle.std.specs.Prelude.{◌≡◌, true, IsTrue, ◌↔◌};
 ghost use Rattle.automata.specs.Runs.{Accepts};
 ghost use Rattle.needed.specs.Needs.{MeetsNeeds};
 
@@ -18,14 +18,14 @@ fn is_free(flow: u8, list: &[u8]) -> bool
 
 // Every needed switch stands in the list.
 fn meets_needs(needed: &Needed, flow: u8, list: &[u8]) -> bool
-    ensures { Decides result (MeetsNeeds needed.now.masks flow list.now) }
+    ensures { IsTrue result ↔ MeetsNeeds needed.now.masks flow list.now }
 {
     judge(needed, flow, list)
 }
 
 // Some run is accepted, whatever the flow.
 fn has_run(steps: &[Transition], start: u32, accepting: u32, flow: u8, list: &[u8]) -> bool
-    ensures { Decides result (Accepts steps.now start accepting list.now) }
+    ensures { IsTrue result ↔ Accepts steps.now start accepting list.now }
 {
     judge(&Automaton::new(steps, start, accepting), flow, list)
 }
@@ -39,7 +39,7 @@ fn meets_both(
     flow: u8,
     list: &[u8],
 ) -> bool
-    ensures { Decides result (MeetsNeeds needed.masks flow list.now × Accepts steps.now start accepting list.now) }
+    ensures { IsTrue result ↔ (MeetsNeeds needed.masks flow list.now × Accepts steps.now start accepting list.now) }
 {
     let both = Both {
         first: needed,
@@ -55,33 +55,10 @@ mod tests {
     use policy::Policy;
     use std::process::Abort;
 
-    // A list for a flow, and whether it is allowed.
-    #[derive(Clone, Copy)]
-    struct Row {
-        flow: u8,
-        list: &'static [u8],
-        allowed: bool,
-    }
-
-    fn yes(flow: u8, list: &'static [u8]) -> Row {
-        Row {
-            flow,
-            list,
-            allowed: true,
-        }
-    }
-
-    fn no(flow: u8, list: &'static [u8]) -> Row {
-        Row {
-            flow,
-            list,
-            allowed: false,
-        }
-    }
-
-    fn agrees<P: Policy>(rt: &impl Abort, policy: &P, rows: &[Row]) {
-        for row in rows {
-            assert_eq!(rt; judge(policy, row.flow, row.list), row.allowed);
+    // Each row has a flow, a list for it, and whether the list is allowed.
+    fn agrees<P: Policy>(rt: &impl Abort, policy: &P, rows: &[(u8, &[u8], bool)]) {
+        for &(flow, list, allowed) in rows {
+            assert_eq!(rt; judge(policy, flow, list), allowed);
         }
     }
 
@@ -95,11 +72,11 @@ mod tests {
             &rt,
             &Open,
             &[
-                yes(0, &[]),
-                yes(3, &[0, 1, 1]),
-                yes(7, &[63, 64, 255]),
-                yes(8, &[]),
-                yes(255, &[200]),
+                (0, &[], true),
+                (3, &[0, 1, 1], true),
+                (7, &[63, 64, 255], true),
+                (8, &[], true),
+                (255, &[200], true),
             ],
         );
     }
@@ -115,22 +92,22 @@ mod tests {
             &rt,
             &NEEDED,
             &[
-                no(0, &[]),
-                no(0, &[1]),
-                no(0, &[1, 1, 2]),
-                yes(0, &[3, 1]),
-                yes(0, &[0, 1, 2, 3, 1]),
+                (0, &[], false),
+                (0, &[1], false),
+                (0, &[1, 1, 2], false),
+                (0, &[3, 1], true),
+                (0, &[0, 1, 2, 3, 1], true),
             ],
         );
         agrees(
             &rt,
             &NEEDED,
             &[
-                yes(2, &[63]),
-                no(2, &[62]),
-                no(7, &[62, 63]),
-                no(7, &[0, 62]),
-                yes(7, &[63, 0, 62]),
+                (2, &[63], true),
+                (2, &[62], false),
+                (7, &[62, 63], false),
+                (7, &[0, 62], false),
+                (7, &[63, 0, 62], true),
             ],
         );
     }
@@ -141,11 +118,11 @@ mod tests {
             &rt,
             &NEEDED,
             &[
-                no(0, &[65, 67]),
-                no(2, &[127]),
-                no(2, &[255, 191]),
-                yes(2, &[255, 63]),
-                yes(0, &[65, 1, 67, 3]),
+                (0, &[65, 67], false),
+                (2, &[127], false),
+                (2, &[255, 191], false),
+                (2, &[255, 63], true),
+                (0, &[65, 1, 67, 3], true),
             ],
         );
     }
@@ -156,11 +133,11 @@ mod tests {
             &rt,
             &NEEDED,
             &[
-                yes(1, &[]),
-                yes(6, &[9]),
-                yes(8, &[]),
-                yes(10, &[62]),
-                yes(255, &[]),
+                (1, &[], true),
+                (6, &[9], true),
+                (8, &[], true),
+                (10, &[62], true),
+                (255, &[], true),
             ],
         );
     }
@@ -183,10 +160,10 @@ mod tests {
             &rt,
             &needed,
             &[
-                yes(0, &[0, 1, 2, 3]),
-                no(0, &[0, 2, 3]),
-                yes(1, &[0, 2, 3]),
-                yes(8, &[]),
+                (0, &[0, 1, 2, 3], true),
+                (0, &[0, 2, 3], false),
+                (1, &[0, 2, 3], true),
+                (8, &[], true),
             ],
         );
     }
@@ -209,18 +186,22 @@ mod tests {
             &rt,
             &waypoint,
             &[
-                no(0, &[]),
-                no(0, &[0, 1, 3]),
-                yes(0, &[0, 2, 3]),
-                yes(9, &[2]),
-                yes(255, &[0, 1, 2, 1, 3]),
+                (0, &[], false),
+                (0, &[0, 1, 3], false),
+                (0, &[0, 2, 3], true),
+                (9, &[2], true),
+                (255, &[0, 1, 2, 1, 3], true),
             ],
         );
         // a switch that the automaton does not know ends every run
         agrees(
             &rt,
             &waypoint,
-            &[no(0, &[2, 4]), no(0, &[66]), no(0, &[2, 255])],
+            &[
+                (0, &[2, 4], false),
+                (0, &[66], false),
+                (0, &[2, 255], false),
+            ],
         );
     }
 
@@ -240,12 +221,12 @@ mod tests {
             &rt,
             &chain,
             &[
-                yes(0, &[1, 2, 3]),
-                yes(0, &[0, 1, 0, 2, 0, 3]),
-                no(0, &[0, 2, 1, 3]),
-                no(0, &[1, 3]),
-                no(0, &[1, 2]),
-                no(0, &[1, 2, 3, 0]),
+                (0, &[1, 2, 3], true),
+                (0, &[0, 1, 0, 2, 0, 3], true),
+                (0, &[0, 2, 1, 3], false),
+                (0, &[1, 3], false),
+                (0, &[1, 2], false),
+                (0, &[1, 2, 3, 0], false),
             ],
         );
     }
@@ -268,12 +249,12 @@ mod tests {
             &rt,
             &condition,
             &[
-                yes(0, &[]),
-                yes(0, &[0, 3]),
-                no(0, &[0, 1, 3]),
-                yes(0, &[0, 1, 2, 3]),
-                no(0, &[2, 1]),
-                yes(0, &[1, 2, 1, 3, 2]),
+                (0, &[], true),
+                (0, &[0, 3], true),
+                (0, &[0, 1, 3], false),
+                (0, &[0, 1, 2, 3], true),
+                (0, &[2, 1], false),
+                (0, &[1, 2, 1, 3, 2], true),
             ],
         );
     }
@@ -295,12 +276,12 @@ mod tests {
             &rt,
             &guess,
             &[
-                no(0, &[1]),
-                yes(0, &[1, 0]),
-                yes(0, &[0, 1, 1, 0]),
-                yes(0, &[1, 1]),
-                no(0, &[1, 0, 0]),
-                no(0, &[0, 0, 1]),
+                (0, &[1], false),
+                (0, &[1, 0], true),
+                (0, &[0, 1, 1, 0], true),
+                (0, &[1, 1], true),
+                (0, &[1, 0, 0], false),
+                (0, &[0, 0, 1], false),
             ],
         );
     }
@@ -311,10 +292,19 @@ mod tests {
         agrees(
             &rt,
             &still,
-            &[yes(0, &[]), no(0, &[0]), yes(77, &[]), no(8, &[64])],
+            &[
+                (0, &[], true),
+                (0, &[0], false),
+                (77, &[], true),
+                (8, &[64], false),
+            ],
         );
-        agrees(&rt, &Automaton::new(&[], 1 << 30, 1 << 31), &[no(0, &[])]);
-        agrees(&rt, &Automaton::new(&[], u32::MAX, 0), &[no(0, &[])]);
+        agrees(
+            &rt,
+            &Automaton::new(&[], 1 << 30, 1 << 31),
+            &[(0, &[], false)],
+        );
+        agrees(&rt, &Automaton::new(&[], u32::MAX, 0), &[(0, &[], false)]);
     }
 
     #[test]
@@ -332,22 +322,26 @@ mod tests {
             &rt,
             &ends,
             &[
-                yes(0, &[64]),
-                yes(0, &[255, 255, 64]),
-                no(0, &[255]),
-                yes(0, &[64, 63, 64]),
+                (0, &[64], true),
+                (0, &[255, 255, 64], true),
+                (0, &[255], false),
+                (0, &[64, 63, 64], true),
             ],
         );
         // states above 31 are never reached and never left
         agrees(
             &rt,
             &Automaton::new(&steps, 1 << 31, u32::MAX),
-            &[no(0, &[64, 1]), no(0, &[64, 3]), no(0, &[64, 1, 2])],
+            &[
+                (0, &[64, 1], false),
+                (0, &[64, 3], false),
+                (0, &[64, 1, 2], false),
+            ],
         );
         agrees(
             &rt,
             &Automaton::new(&steps, u32::MAX, 1),
-            &[no(0, &[2]), no(0, &[1]), yes(0, &[])],
+            &[(0, &[2], false), (0, &[1], false), (0, &[], true)],
         );
     }
 
@@ -365,13 +359,13 @@ mod tests {
             &rt,
             &both,
             &[
-                yes(0, &[2, 1, 3]),
-                no(0, &[2, 3]),
-                no(0, &[1, 2, 3]),
-                no(0, &[1]),
-                no(0, &[]),
-                yes(1, &[2, 3]),
-                no(1, &[1]),
+                (0, &[2, 1, 3], true),
+                (0, &[2, 3], false),
+                (0, &[1, 2, 3], false),
+                (0, &[1], false),
+                (0, &[], false),
+                (1, &[2, 3], true),
+                (1, &[1], false),
             ],
         );
         let three = Both {
@@ -382,10 +376,10 @@ mod tests {
             &rt,
             &three,
             &[
-                yes(0, &[2, 0, 1]),
-                no(0, &[2, 0]),
-                yes(8, &[2]),
-                no(8, &[1]),
+                (0, &[2, 0, 1], true),
+                (0, &[2, 0], false),
+                (8, &[2], true),
+                (8, &[1], false),
             ],
         );
     }
