@@ -42,7 +42,7 @@ fn switch_list(heap: Global, set: u64) -> Result<String, AllocError>
 
 // The lines for a lawful sheet.
 pub fn summary(heap: Global, case: &Case) -> Result<String, AllocError>
-    ensures { IfOk result (λ t. string_bytes t ≡ summary_text case.now.sheet.now) }
+    ensures { IfOk result (λ t. string_bytes t ≡ summary_text case.now) }
 {
     let switches = case.switches();
     let flows = case.flows();
