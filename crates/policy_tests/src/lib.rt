@@ -1,7 +1,7 @@
 // Examples of policies. First what judging says of each kind, in the words of its meaning, as it follows from the contract of `judge`; then tables of lists with the answer to each, proved and run.
 #![tactic(auto)]
 
-ghost use Rattle.std.specs.Prelude.{◌≡◌, true, Decides};
+ghost use Rattle.std.specs.Prelude.{◌↔◌, IsTrue};
 ghost use Rattle.automata.specs.Runs.{Accepts};
 ghost use Rattle.needed.specs.Needs.{MeetsNeeds};
 
@@ -11,21 +11,21 @@ use policy::{Both, Open, judge};
 
 // Every list is allowed.
 fn is_free(flow: u8, list: &[u8]) -> bool
-    ensures { result ≡ true }
+    ensures { IsTrue result }
 {
     judge(&Open, flow, list)
 }
 
 // Every needed switch stands in the list.
 fn meets_needs(needed: &Needed, flow: u8, list: &[u8]) -> bool
-    ensures { Decides result (MeetsNeeds needed.now.masks flow list.now) }
+    ensures { IsTrue result ↔ MeetsNeeds needed.now.masks flow list.now }
 {
     judge(needed, flow, list)
 }
 
 // Some run is accepted, whatever the flow.
 fn has_run(steps: &[Transition], start: u32, accepting: u32, flow: u8, list: &[u8]) -> bool
-    ensures { Decides result (Accepts steps.now start accepting list.now) }
+    ensures { IsTrue result ↔ Accepts steps.now start accepting list.now }
 {
     judge(&Automaton::new(steps, start, accepting), flow, list)
 }
@@ -39,7 +39,7 @@ fn meets_both(
     flow: u8,
     list: &[u8],
 ) -> bool
-    ensures { Decides result (MeetsNeeds needed.masks flow list.now × Accepts steps.now start accepting list.now) }
+    ensures { IsTrue result ↔ (MeetsNeeds needed.masks flow list.now × Accepts steps.now start accepting list.now) }
 {
     let both = Both {
         first: needed,
@@ -177,7 +177,7 @@ mod tests {
     fn a_case_needs_what_its_sheet_says(rt: HostRuntime) {
         let mut case = Case::smallest();
         assert!(rt; read(DIAMOND, &mut case).is_ok());
-        let needed = Needed::of_case(&case);
+        let needed = Needed::from(&case);
         assert_eq!(rt; needed.masks, [2, 0, 0, 0, 0, 0, 0, 0]);
         agrees(
             &rt,
