@@ -26,8 +26,8 @@ one_right n c p k kind b h = by_cases (leb (p + k) n) b refl h
   where
     by_cases : (x y : Bool) → leb (p + k) n ≡ x → cond x (cond y None (Some (fault_of kind c p))) (Some (fault_of EndsTooSoon c n)) ≡ None → (p + k ≤ n) × (y ≡ true)
     by_cases true true e h = (leb-true (p + k) n e, refl)
-    by_cases true false e h = absurd (let z : ◌≡◌ {A = ℕ} 0 1 = cc in omega arith)
-    by_cases false y e h = absurd (let z : ◌≡◌ {A = ℕ} 0 1 = cc in omega arith)
+    by_cases true false e h = cc
+    by_cases false y e h = cc
 
 one_passes : (n : ℕ) (c : Section) (p k : ℕ) (kind : FaultKind) (b : Bool) → p + k ≤ n → b ≡ true → wrong n (piece c p k kind b) ≡ None
 one_passes n c p k kind b inside e =

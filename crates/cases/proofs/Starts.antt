@@ -170,8 +170,7 @@ module _ (bs : List ℕ) (k : ℕ) (long : k < length bs) (enough : 1622 ≤ k) 
       more_some : wrong (length bs) (no_more bs) ≡ None → ⊥
       more_some none =
           let s : Some (fault_of BytesFollow E (sheet_end bs)) ≡ None = sym (more_told bs (sheet_end bs) (omega (arith, few, light, product))) ∙ none in
-          let z : ◌≡◌ {A = ℕ} 0 1 = cc in
-          omega arith
+          cc
 
   few_from_a : first_wrong (length bs) (section_a bs) ≡ None → switches bs ≤ 64
   unfolding section_a

@@ -1,12 +1,11 @@
 -- What a lawful sheet is, and what the first fault of another is, in the sheet's own words.
-use Rattle.std.specs.Prelude.{◌≡◌, ℕ, ◌+◌, ◌<◌, ◌≤◌, Bool, true, false, ◌⊎◌, List, ◌∷◌, ◌++◌, length, Some, None, Option, ◌≢◌}
-use Rattle.std.specs.List.{AllByRecursion}
+use Rattle.std.specs.Prelude.{◌≡◌, ℕ, ◌+◌, ◌<◌, ◌≤◌, true, false, ◌⊎◌, List, ◌∷◌, ◌++◌, length, All, ◌≢◌}
 use Rattle.sets.specs.Sets.{InSet}
 use Rattle.faults.specs.declared.FaultKind.TheVariants.{EndsTooSoon}
 use Rattle.faults.specs.declared.Fault.{Fault}
 use Rattle.faults.specs.Faults.{fault_of}
 use Rattle.sheet.specs.Layout.{byte_at, switches, links, flows, ingress_of, exit_of, old_from, new_from, old_table, new_table, needed_from, needed_of, sheet_end, movers_of}
-use Rattle.sheet.specs.Pieces.{Test, Piece, sheet_pieces, first_fault}
+use Rattle.sheet.specs.Pieces.{Test, Piece, sheet_pieces}
 use Rattle.records.specs.Tables.{row_size, hop_at, HopFits}
 
 -- every hop of a table of the sheet is none, or goes to a linked switch
@@ -36,7 +35,7 @@ pub record LawfulSheet (bs : List ℕ) : Type 0 where
 -- a piece passes: its bytes are all there, and each of its tests passes
 pub record Passes (bs : List ℕ) (p : Piece) : Type 0 where
   pub there : p.from + p.size ≤ length bs
-  pub tested : AllByRecursion (λ (t : Test). t.passes ≡ true) p.tests
+  pub tested : All (λ (t : Test). t.passes ≡ true) p.tests
 
 -- the sheet ends before the piece does: fault 1, told where the sheet ends
 pub record CutShort (bs : List ℕ) (p : Piece) (e : Fault) : Type 0 where
@@ -50,7 +49,7 @@ pub record TestFails (bs : List ℕ) (p : Piece) (e : Fault) : Type 0 where
   pub test : Test
   pub after : List Test
   pub split : p.tests ≡ before ++ (test ∷ after)
-  pub earlier : AllByRecursion (λ (t : Test). t.passes ≡ true) before
+  pub earlier : All (λ (t : Test). t.passes ≡ true) before
   pub fails : test.passes ≡ false
   pub told : e ≡ fault_of test.kind p.section p.from
 
@@ -60,14 +59,5 @@ pub record FirstFails (bs : List ℕ) (e : Fault) : Type 0 where
   pub piece : Piece
   pub after : List Piece
   pub split : sheet_pieces bs ≡ before ++ (piece ∷ after)
-  pub earlier : AllByRecursion (Passes bs) before
+  pub earlier : All (Passes bs) before
   pub fails : CutShort bs piece e ⊎ TestFails bs piece e
-
--- there is no fault
-abbrev pub none_told : Option Fault → Bool
-none_told None = true
-none_told (Some e) = false
-
--- lawful as a test
-abbrev pub is_lawful : List ℕ → Bool
-is_lawful bs = none_told (first_fault bs)

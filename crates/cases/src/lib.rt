@@ -1,11 +1,11 @@
 // A case: a lawful sheet with its numbers. It holds no copy of the sheet.
 #![tactic(auto)]
 
-ghost use Rattle.std.specs.Prelude.{◌≡◌, ◌+◌, ◌*◌, ◌<◌, ◌≤◌, true, length, IfSome, is_ok, Some, Decides, MatchResult};
+ghost use Rattle.std.specs.Prelude.{◌≡◌, ◌+◌, ◌*◌, ◌<◌, ◌≤◌, ◌↔◌, length, IfSome, IsOk, Some, SomeIff, MatchResult};
 ghost use Rattle.sets.specs.Sets.{MembersBelow, Exactly, members};
 ghost use Rattle.faults.specs.declared.Fault.{Fault as FaultT};
 ghost use Rattle.faults.specs.Faults.{told_by};
-ghost use Rattle.cases.specs.Lawful.{LawfulSheet, FirstFails, is_lawful};
+ghost use Rattle.cases.specs.Lawful.{LawfulSheet, FirstFails};
 ghost use Rattle.sheet.specs.Layout.{switches as switches_of, flows as flows_of, ingress_of, exit_of, needed_of, old_table, new_table, movers_of, of_flow, smallest_sheet, ends_from, old_from, new_from, needed_from, mask_from};
 ghost use Rattle.sheet.specs.Pieces.{first_fault};
 ghost use Rattle.records.specs.Masks.{bytes_at};
@@ -14,6 +14,7 @@ ghost use Rattle.records.specs.Tables.{row_size, Mover, HopsInside};
 use faults::Fault;
 use records::mask_at;
 use sheet::read_numbers;
+use std::marker::Model;
 
 #[derive(Drop)]
 pub struct Case<'a> {
@@ -21,10 +22,25 @@ pub struct Case<'a> {
     switches: u8,
     flows: u8,
     movers: u64,
-    ghost lawful: { is_lawful sheet.now ≡ true },
-    ghost numbered: { switches ≡ switches_of sheet.now },
-    ghost flowing: { flows ≡ flows_of sheet.now },
-    ghost listed: { members movers ≡ movers_of sheet.now },
+}
+
+// A case is seen as its sheet.
+impl<'a> Model for Case<'a> {
+    ghost use Rattle.std.specs.Prelude.{ℕ, List};
+    ghost use Rattle.cases.specs.Case.{CaseOf};
+
+    ghost Value = { List ℕ };
+
+    ghost view = { λ c. c.sheet.now };
+
+    ghost invariant = { λ c. CaseOf c.sheet.now c.switches c.flows c.movers };
+}
+
+// Where a flow comes in and goes out.
+#[derive(Clone, Copy)]
+struct Ends {
+    ingress: u8,
+    exit: u8,
 }
 
 // The smallest lawful sheet: one switch, and one flow that ends where it begins.
@@ -33,7 +49,7 @@ const SMALLEST: &[u8; 25] = b"\x01\0\0\0\0\0\0\0\0\x01\0\0\x01\xff\x01\xff\x01\0
 impl<'a> Case<'a> {
     // The case of the smallest lawful sheet: a place to read another into.
     pub fn smallest() -> Case<'a>
-        ensures { result.sheet.now ≡ smallest_sheet }
+        ensures { result ≡ smallest_sheet }
     {
         Case {
             sheet: SMALLEST,
@@ -45,15 +61,16 @@ impl<'a> Case<'a> {
 
     // How many switches there are.
     pub fn switches(&self) -> u8
-        ensures value { result ≡ switches_of self.now.sheet.now }
+        ensures value { result ≡ switches_of self.now }
         ensures range { (0 < result) × (result ≤ 64) }
+        ensures lawful { LawfulSheet self.now }
     {
         self.switches
     }
 
     // How many flows there are.
     pub fn flows(&self) -> u8
-        ensures value { result ≡ flows_of self.now.sheet.now }
+        ensures value { result ≡ flows_of self.now }
         ensures range { (0 < result) × (result ≤ 8) }
     {
         self.flows
@@ -61,35 +78,27 @@ impl<'a> Case<'a> {
 
     // The switch where flow j comes in, if there is such a flow.
     pub fn ingress(&self, j: u8) -> Option<u8>
-        ensures value { result ≡ of_flow (flows_of self.now.sheet.now) j (ingress_of self.now.sheet.now j) }
-        ensures inside { IfSome result (λ s. s < switches_of self.now.sheet.now) }
+        ensures value { result ≡ of_flow (flows_of self.now) j (ingress_of self.now j) }
+        ensures inside { IfSome result (λ s. s < switches_of self.now) }
     {
-        if j < self.flows {
-            Some(self.sheet[self.ends_from() + 2 * j as usize])
-        } else {
-            None
-        }
+        self.ends(j).map(|ends| ends.ingress)
     }
 
     // The switch where flow j goes out, if there is such a flow.
     pub fn exit(&self, j: u8) -> Option<u8>
-        ensures value { result ≡ of_flow (flows_of self.now.sheet.now) j (exit_of self.now.sheet.now j) }
-        ensures inside { IfSome result (λ s. s < switches_of self.now.sheet.now) }
+        ensures value { result ≡ of_flow (flows_of self.now) j (exit_of self.now j) }
+        ensures inside { IfSome result (λ s. s < switches_of self.now) }
     {
-        if j < self.flows {
-            Some(self.sheet[self.ends_from() + 2 * j as usize + 1])
-        } else {
-            None
-        }
+        self.ends(j).map(|ends| ends.exit)
     }
 
     // The set of switches that flow j needs, if there is such a flow.
     pub fn needed(&self, j: u8) -> Option<u64>
-        ensures value { result ≡ of_flow (flows_of self.now.sheet.now) j (needed_of self.now.sheet.now j) }
-        ensures inside { IfSome result (λ m. MembersBelow (switches_of self.now.sheet.now) m) }
+        ensures value { result ≡ of_flow (flows_of self.now) j (needed_of self.now j) }
+        ensures inside { IfSome result (λ m. MembersBelow (switches_of self.now) m) }
     {
         if j < self.flows {
-            mask_at(self.sheet, self.needed_from() + 8 * j as usize)
+            mask_at(self.sheet, self.needed_from() + 8 * usize::from(j))
         } else {
             None
         }
@@ -97,43 +106,58 @@ impl<'a> Case<'a> {
 
     // The old table: a row for each switch, in it a byte for each flow.
     pub fn old_table(&self) -> &'a [u8]
-        ensures value { result.now ≡ old_table self.now.sheet.now }
-        ensures size { length result.now ≡ switches_of self.now.sheet.now * row_size (flows_of self.now.sheet.now) }
-        ensures hops { HopsInside (switches_of self.now.sheet.now) (flows_of self.now.sheet.now) result.now }
+        ensures value { result.now ≡ old_table self.now }
+        ensures size { length result.now ≡ switches_of self.now * row_size (flows_of self.now) }
+        ensures hops { HopsInside (switches_of self.now) (flows_of self.now) result.now }
     {
         self.table(self.old_from())
     }
 
     // The new table, of the same shape.
     pub fn new_table(&self) -> &'a [u8]
-        ensures value { result.now ≡ new_table self.now.sheet.now }
-        ensures size { length result.now ≡ switches_of self.now.sheet.now * row_size (flows_of self.now.sheet.now) }
-        ensures hops { HopsInside (switches_of self.now.sheet.now) (flows_of self.now.sheet.now) result.now }
+        ensures value { result.now ≡ new_table self.now }
+        ensures size { length result.now ≡ switches_of self.now * row_size (flows_of self.now) }
+        ensures hops { HopsInside (switches_of self.now) (flows_of self.now) result.now }
     {
         self.table(self.new_from())
     }
 
     // The set of the switches whose two rows differ.
     pub fn movers(&self) -> u64
-        ensures exact { Exactly result (λ s. Mover (switches_of self.now.sheet.now) (flows_of self.now.sheet.now) (old_table self.now.sheet.now) (new_table self.now.sheet.now) s) }
-        ensures listed { members result ≡ movers_of self.now.sheet.now }
+        ensures exact { Exactly result (λ s. Mover (switches_of self.now) (flows_of self.now) (old_table self.now) (new_table self.now) s) }
+        ensures listed { members result ≡ movers_of self.now }
         ensures few { length (members result) ≤ 16 }
     {
         self.movers
     }
 
+    // The ends of flow j, if there is such a flow.
+    fn ends(&self, j: u8) -> Option<Ends>
+        ensures value { SomeIff result (j < flows_of self.now) (record { ingress = ingress_of self.now j; exit = exit_of self.now j }) }
+        ensures inside { IfSome result (λ ends. (ends.ingress < switches_of self.now) × (ends.exit < switches_of self.now)) }
+    {
+        if j >= self.flows {
+            return None;
+        }
+        let at = self.ends_from() + 2 * usize::from(j);
+        Some(Ends {
+            ingress: self.sheet[at],
+            exit: self.sheet[at + 1],
+        })
+    }
+
     // The table whose rows begin at the place.
     fn table(&self, from: usize) -> &'a [u8]
-        requires { from + switches_of self.now.sheet.now * row_size (flows_of self.now.sheet.now) ≤ length self.now.sheet.now }
-        ensures value { result.now ≡ bytes_at self.now.sheet.now from (switches_of self.now.sheet.now * row_size (flows_of self.now.sheet.now)) }
-        ensures size { length result.now ≡ switches_of self.now.sheet.now * row_size (flows_of self.now.sheet.now) }
+        requires { from + switches_of self.now * row_size (flows_of self.now) ≤ length self.now }
+        ensures value { result.now ≡ bytes_at self.now from (switches_of self.now * row_size (flows_of self.now)) }
+        ensures size { length result.now ≡ switches_of self.now * row_size (flows_of self.now) }
     {
         &self.sheet[from..from + self.table_size()]
     }
 
     // The size of a table in bytes.
     fn table_size(&self) -> usize
-        ensures value { result ≡ switches_of self.now.sheet.now * row_size (flows_of self.now.sheet.now) }
+        ensures value { result ≡ switches_of self.now * row_size (flows_of self.now) }
         ensures bound { result < 65536 }
     {
         usize::from(self.switches) * usize::from(self.flows)
@@ -141,23 +165,25 @@ impl<'a> Case<'a> {
 
     // The place of the first pair of section B.
     fn ends_from(&self) -> usize
-        ensures value { result ≡ ends_from self.now.sheet.now 0 }
+        ensures value { result ≡ ends_from self.now 0 }
         ensures bound { result < 65536 }
     {
-        1 + 8 * self.switches as usize + 1
+        1 + 8 * usize::from(self.switches) + 1
     }
 
     // The place of the first old row.
     fn old_from(&self) -> usize
-        ensures value { result ≡ old_from self.now.sheet.now + 1 }
+        ensures value { result ≡ old_from self.now + 1 }
+        ensures lawful { LawfulSheet self.now }
         ensures bound { result < 131072 }
     {
-        self.ends_from() + 2 * self.flows as usize + 1
+        self.ends_from() + 2 * usize::from(self.flows) + 1
     }
 
     // The place of the first new row.
     fn new_from(&self) -> usize
-        ensures value { result ≡ new_from self.now.sheet.now + 1 }
+        ensures value { result ≡ new_from self.now + 1 }
+        ensures lawful { LawfulSheet self.now }
         ensures bound { result < 262144 }
     {
         self.old_from() + self.table_size() + 1
@@ -165,7 +191,7 @@ impl<'a> Case<'a> {
 
     // The place of the first needed mask.
     fn needed_from(&self) -> usize
-        ensures value { result ≡ mask_from (needed_from self.now.sheet.now) 0 }
+        ensures value { result ≡ mask_from (needed_from self.now) 0 }
         ensures bound { result < 524288 }
     {
         self.new_from() + self.table_size() + 1
@@ -175,10 +201,10 @@ impl<'a> Case<'a> {
 // Reads a sheet into the place, or tells its first fault and leaves the place as it was.
 pub fn read<'a>(sheet: &'a [u8], case: &mut Case<'a>) -> Result<(), Fault>
     ensures tells { told_by result ≡ first_fault sheet.now }
-    ensures lawful { Decides (is_ok result) (LawfulSheet sheet.now) }
+    ensures lawful { IsOk result ↔ LawfulSheet sheet.now }
     ensures faulty { MatchResult result (λ _. LawfulSheet sheet.now) (λ e. FirstFails sheet.now e) }
     ensures exactly { (e : FaultT) → FirstFails sheet.now e → told_by result ≡ Some e }
-    ensures held { MatchResult result (λ _. case.new.sheet.now ≡ sheet.now) (λ _. case.new ≡ case.old) }
+    ensures held { MatchResult result (λ _. case.new ≡ sheet.now) (λ _. case.new ≡ case.old) }
 {
     fill(sheet, case)
 }
@@ -186,7 +212,7 @@ pub fn read<'a>(sheet: &'a [u8], case: &mut Case<'a>) -> Result<(), Fault>
 // The same, as the list of pieces tells it.
 fn fill<'a>(sheet: &'a [u8], case: &mut Case<'a>) -> Result<(), Fault>
     ensures tells { told_by result ≡ first_fault sheet.now }
-    ensures held { MatchResult result (λ _. case.new.sheet.now ≡ sheet.now) (λ _. case.new ≡ case.old) }
+    ensures held { MatchResult result (λ _. case.new ≡ sheet.now) (λ _. case.new ≡ case.old) }
 {
     let numbers = read_numbers(sheet)?;
     *case = Case {

@@ -36,7 +36,7 @@ impl fmt::Display for Members {
 
 // The lines for a lawful sheet.
 pub fn summary(heap: Global, case: &Case) -> Result<String, AllocError>
-    ensures { IfOk result (λ t. string_bytes t ≡ summary_text case.now.sheet.now) }
+    ensures { IfOk result (λ t. string_bytes t ≡ summary_text case.now) }
 {
     let switches = case.switches();
     let flows = case.flows();

@@ -14,21 +14,19 @@ use policy::Policy;
 const FLOWS: u8 = 8;
 
 // The sets of switches that flows 0 to 7 need, any eight; a flow of 8 or above needs nothing. Allows the lists that have every switch that the flow needs.
-#[derive(Clone, Copy)]
+#[derive(Clone, Copy, Debug, PartialEq, Eq, Hash)]
 pub struct Needed {
     pub masks: [u64; 8],
 }
 
-impl Needed {
-    // The needed switches of a case; a flow that it does not have needs nothing.
-    pub fn of_case(case: &Case) -> Needed
-        ensures { MasksOf (flows_of case.now.sheet.now) (needed_of case.now.sheet.now) result.masks }
-    {
+// The needed switches of a case; a flow that it does not have needs nothing.
+impl From<&Case<'_>> for Needed {
+    ghost from_gives = { λ case needed. MasksOf (flows_of case.now) (needed_of case.now) needed.masks };
+
+    fn from(case: &Case<'_>) -> Needed {
         let mut masks = [0; 8];
-        for flow in 0..FLOWS {
-            if let Some(mask) = case.needed(flow) {
-                masks[flow as usize] = mask;
-            }
+        for (flow, mask) in masks.iter_mut().enumerate() {
+            *mask = case.needed(flow as u8).unwrap_or(0);
         }
         Needed { masks }
     }
@@ -57,7 +55,7 @@ impl Policy for Needed {
 
     fn begin(&self, flow: u8) -> u64 {
         if flow < FLOWS {
-            self.masks[flow as usize]
+            self.masks[usize::from(flow)]
         } else {
             0
         }

@@ -1,7 +1,7 @@
 // Examples of policies. First what judging says of each kind, in the words of its meaning, as it follows from the contract of `judge`; then tables of lists with the answer to each, proved and run.
 #![tactic(auto)]
 
-ghost use Rattle.std.specs.Prelude.{◌≡◌, true, IsTrue, ◌↔◌};
+ghost use Rattle.std.specs.Prelude.{◌↔◌, IsTrue};
 ghost use Rattle.automata.specs.Runs.{Accepts};
 ghost use Rattle.needed.specs.Needs.{MeetsNeeds};
 
@@ -11,7 +11,7 @@ use policy::{Both, Open, judge};
 
 // Every list is allowed.
 fn is_free(flow: u8, list: &[u8]) -> bool
-    ensures { result ≡ true }
+    ensures { IsTrue result }
 {
     judge(&Open, flow, list)
 }
@@ -154,7 +154,7 @@ mod tests {
     fn a_case_needs_what_its_sheet_says(rt: HostRuntime) {
         let mut case = Case::smallest();
         assert!(rt; read(DIAMOND, &mut case).is_ok());
-        let needed = Needed::of_case(&case);
+        let needed = Needed::from(&case);
         assert_eq!(rt; needed.masks, [2, 0, 0, 0, 0, 0, 0, 0]);
         agrees(
             &rt,

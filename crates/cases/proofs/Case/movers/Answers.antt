@@ -1,12 +1,6 @@
-use Rattle.std.proofs.Common.{length, ap, arith}
-use Rattle.cases.proofs.Laws.{lawful_of, exact_movers}
+use Rattle.std.proofs.Common.{arith}
+use Rattle.cases.proofs.Laws.{exact_movers}
 use Rattle.cases.proofs.Case.movers.Goals as goal
 
-pub returns : goal.returns
-returns c =
-    let v = c.args.self.now in
-    record {
-      exact = exact_movers v.sheet.now v.lawful v.movers (omega arith) v.listed;
-      listed = v.listed;
-      few = omega (arith, ap length v.listed, (lawful_of v.sheet.now v.lawful).few_movers);
-    }
+pub returns-clause-exact : goal.returns-clause-exact
+returns-clause-exact c = rw (← c.self.view_is) (exact_movers _ c.self.invariant.lawful _ (omega arith) c.self.invariant.listed)
