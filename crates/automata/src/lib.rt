@@ -2,7 +2,7 @@
 #![tactic(auto)]
 
 ghost use Rattle.std.specs.Prelude.{◌≡◌, ◌^◌, ◌<◌};
-ghost use Rattle.automata.specs.Marks.{is_state, is_taken, with_reached, next_states, some_in};
+ghost use Rattle.automata.specs.Marks.{is_state, is_taken, next_states, some_in};
 ghost use Rattle.automata.specs.Runs.{Accepts};
 ghost use Rattle.automata.specs.States.{some_run};
 
@@ -19,7 +19,7 @@ pub struct Transition {
     pub to: u8,
 }
 
-// Sets of states are masks: bit q stands for state q. Allows, for every flow, the lists that some run from a state of `start` to one of `accepting` reads. The maker lends the transitions.
+// Sets of states are masks: bit q stands for state q. Allows, for every flow, the lists that some run from a state of `start` to one of `accepting` reads.
 #[derive(Debug, Clone, Copy, PartialEq, Eq, Hash)]
 pub struct Automaton<'a> {
     pub transitions: &'a [Transition],
@@ -28,6 +28,7 @@ pub struct Automaton<'a> {
 }
 
 impl<'a> Automaton<'a> {
+    // An automaton over transitions that the maker lends.
     pub fn new(transitions: &'a [Transition], start: u32, accepting: u32) -> Automaton<'a>
         ensures { (result.transitions.now ≡ transitions.now) × (result.start ≡ start) × (result.accepting ≡ accepting) }
     {
@@ -61,24 +62,17 @@ fn takes(t: &Transition, states: u32, switch: u8) -> bool
     t.switch == switch && has_state(states, t.from) && t.to < STATES
 }
 
-// The set with the state that the transition leads to, where it is taken.
-fn with_reached(next: u32, t: &Transition, states: u32, switch: u8) -> u32
-    ensures { result ≡ with_reached states switch next t.now }
-{
-    if takes(t, states, switch) {
-        next | only(t.to)
-    } else {
-        next
-    }
-}
-
 // The states that the transitions taken at the switch lead to.
 fn reached(transitions: &[Transition], states: u32, switch: u8) -> u32
     ensures { result ≡ next_states transitions.now states switch }
 {
-    transitions
-        .iter()
-        .fold(0, |next, t| with_reached(next, t, states, switch))
+    transitions.iter().fold(0, |next, t| {
+        if takes(t, states, switch) {
+            next | only(t.to)
+        } else {
+            next
+        }
+    })
 }
 
 impl<'a> Policy for Automaton<'a> {

@@ -4,7 +4,7 @@
 #[cfg(test)]
 mod tests {
     use cases::{Case, read};
-    use faults::{FaultKind, Section};
+    use faults::{Fault, FaultKind, Section};
     use std::test::Fail;
 
     // Four switches and one flow from 0 to 3, whose middle two switches change places.
@@ -39,22 +39,31 @@ mod tests {
     }
 
     #[test]
-    fn a_fault_leaves_the_place(rt: HostRuntime) -> Result<(), Fail> {
+    fn a_fault_leaves_the_place(rt: HostRuntime) {
         let mut case = Case::smallest();
         assert!(rt; read(DIAMOND, &mut case).is_ok());
         let whole: &[u8] = DIAMOND;
-        match read(&whole[0..54], &mut case) {
-            Ok(()) => return Err(Fail::new("a cut sheet was read")),
-            Err(fault) => {
-                assert_eq!(rt; fault.kind, FaultKind::EndsTooSoon);
-                assert_eq!(rt; fault.section, Section::E);
-                assert_eq!(rt; fault.place, 54);
-                assert_eq!(rt; fault.number(), 1);
-                assert_eq!(rt; fault.letter(), 'E');
-            }
-        }
+        let fault = Fault {
+            kind: FaultKind::EndsTooSoon,
+            section: Section::E,
+            place: 54,
+        };
+        assert_eq!(rt; read(&whole[..54], &mut case), Err(fault));
+        assert_eq!(rt; fault.number(), 1);
+        assert_eq!(rt; fault.letter(), 'E');
         assert_eq!(rt; case.switches(), 4);
         assert_eq!(rt; case.movers(), 7);
+    }
+
+    #[test]
+    fn a_fault_is_told_by_number_letter_and_place(rt: HostRuntime) -> Result<(), Fail> {
+        let fault = Fault {
+            kind: FaultKind::TooManyMovers,
+            section: Section::D,
+            place: 41,
+        };
+        let text = format!(in rt.alloc(); "{fault}")?;
+        assert_eq!(rt; text.as_str(), "10 D 41");
         Ok(())
     }
 

@@ -25,10 +25,8 @@ impl fmt::Display for Members {
     ghost output = { λ set. Some (movers_text (members set.0)) };
 
     fn fmt<W: fmt::Write>(&self, f: &mut fmt::Formatter<W>) -> fmt::Result {
-        for s in 0..64u8 {
-            if sets::has(self.0, s) {
-                write!(f, " {s}")?;
-            }
+        for s in sets::rising(self.0) {
+            write!(f, " {s}")?;
         }
         Ok(())
     }

@@ -28,7 +28,7 @@ impl<'a> Tables<'a> {
         ensures { MatchOption result (WholeTables n f old.now new.now → ⊥) (λ t. (t.old.now ≡ old.now) × (t.new.now ≡ new.now) × (t.switches ≡ n) × (t.flows ≡ f)) }
     {
         let size = usize::from(n) * usize::from(f);
-        if n > 64 || old.len() < size || new.len() < size {
+        if n > sets::WIDTH || old.len() < size || new.len() < size {
             return None;
         }
         Some(Tables {

@@ -194,19 +194,19 @@ chosen_skip m p n before here = record {
 }
 
 -- its members, rising
-filter_same : (p q : ℕ → Bool) (k a : ℕ) → ((t : ℕ) → a ≤ t → t < a + k → p t ≡ q t) → filter p (range_with_len a k) ≡ filter q (range_with_len a k)
+pub filter_same : (p q : ℕ → Bool) (k a : ℕ) → ((t : ℕ) → a ≤ t → t < a + k → p t ≡ q t) → filter p (range_with_len a k) ≡ filter q (range_with_len a k)
 filter_same p q zero a same = refl
 filter_same p q (suc k) a same =
     let rest = filter_same p q k (a + 1) (λ t low high. same t (omega arith) (omega arith)) in
     ap (λ xs. cond (p a) (a ∷ xs) xs) rest ∙ ap (λ b. cond b (a ∷ filter q (range_with_len (a + 1) k)) (filter q (range_with_len (a + 1) k))) (same a (omega arith) (omega arith))
 
-filter_none : (p : ℕ → Bool) (k a : ℕ) → ((t : ℕ) → a ≤ t → t < a + k → p t ≡ false) → filter p (range_with_len a k) ≡ []
+pub filter_none : (p : ℕ → Bool) (k a : ℕ) → ((t : ℕ) → a ≤ t → t < a + k → p t ≡ false) → filter p (range_with_len a k) ≡ []
 filter_none p zero a none = refl
 filter_none p (suc k) a none =
     ap (λ b. cond b (a ∷ filter p (range_with_len (a + 1) k)) (filter p (range_with_len (a + 1) k))) (none a (omega arith) (omega arith))
     ∙ filter_none p k (a + 1) (λ t low high. none t (omega arith) (omega arith))
 
-range_split : (a i k : ℕ) → range_with_len a (i + k) ≡ range_with_len a i ++ range_with_len (a + i) k
+pub range_split : (a i k : ℕ) → range_with_len a (i + k) ≡ range_with_len a i ++ range_with_len (a + i) k
 range_split a zero k = ap (range_with_len a) (zero-add k) ∙ ap (λ b. range_with_len b k) (sym (add-zero a))
 range_split a (suc i) k =
     let e : suc i + k ≡ suc (i + k) = omega arith in

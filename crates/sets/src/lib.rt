@@ -1,11 +1,12 @@
-// Sets of switches 0 to 63 as numbers of 64 bits. A switch is any byte: one of 64 or above is in no set, and cannot be put into one.
+// Sets of switches 0 to 63 as numbers of 64 bits. A switch is any byte: one of 64 or above is in no set, and cannot be put into one. A set has no type of its own, since a batch of switches is told, lent and ordered as the number that it is: the sum of 2^s over its switches s.
 #![tactic(auto)]
 
 ghost use Rattle.std.specs.Prelude.{◌≡◌, ◌<◌, ◌⊎◌, ◌↔◌, length, IsTrue, MatchOption, ◌≢◌};
+ghost use Rattle.std.specs.Iterator.{YieldsFirst, item_count};
 ghost use Rattle.sets.specs.Sets.{InSet, Exactly, PartOf, Disjoint, SameMembers, MembersBelow, Empty, Lowest, members};
 
 // How many switches a set can have.
-const WIDTH: u8 = 64;
+pub const WIDTH: u8 = 64;
 
 // Whether switch s is in the set.
 pub fn has(set: u64, s: u8) -> bool
@@ -83,5 +84,32 @@ pub fn lowest(set: u64) -> Option<u8>
         None
     } else {
         Some(set.trailing_zeros() as u8)
+    }
+}
+
+// Goes over the switches of a set, rising: those that are left.
+#[derive(Clone, Debug, PartialEq, Eq, Drop)]
+pub struct Members {
+    pub left: u64,
+}
+
+// The switches of the set one by one.
+pub fn rising(set: u64) -> Members
+    ensures { result.left ≡ set }
+{
+    Members { left: set }
+}
+
+impl Iterator for Members {
+    type Item = u8;
+
+    ghost next_gives = { YieldsFirst (λ it. members it.left) };
+
+    ghost remaining = { item_count (λ it. members it.left) };
+
+    fn next(&mut self) -> Option<u8> {
+        let s = lowest(self.left)?;
+        self.left = without(self.left, s);
+        Some(s)
     }
 }

@@ -1,5 +1,5 @@
 -- Where the records of a sheet lie, and what they hold. A sheet is its list of bytes. A byte past its end reads as 0, so that each definition has a value for every list of bytes; whether the bytes are there is told by the first fault.
-use Rattle.std.specs.Prelude.{ℕ, ◌+◌, ◌*◌, cond, List, [], ◌∷◌, Some, None, Option, nat_lt, slice_index}
+use Rattle.std.specs.Prelude.{ℕ, ◌+◌, ◌*◌, if◌then◌else◌, List, [], ◌∷◌, Some, None, Option, nat_lt, slice_index}
 use Rattle.records.specs.Masks.{bytes_at, mask_at}
 use Rattle.records.specs.Tables.{row_size, movers}
 
@@ -77,7 +77,7 @@ needed_of bs j = mask_at bs (mask_from (needed_from bs) j)
 
 -- what is asked of flow j of f: the value v, or nothing where there is no such flow
 abbrev pub of_flow : ℕ → ℕ → ℕ → Option ℕ
-of_flow f j v = cond (nat_lt j f) (Some v) None
+of_flow f j v = if nat_lt j f then Some v else None
 
 -- where section E ends
 abbrev pub sheet_end : List ℕ → ℕ

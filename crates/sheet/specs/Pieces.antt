@@ -1,5 +1,5 @@
 -- The sheet as a list of its pieces in reading order, each with its place, its size and its tests. A piece is a record of the sheet (a count, a mask, a pair or a row) or one of the two tests that close the reading. The first piece that fails gives the fault.
-use Rattle.std.specs.Prelude.{ℕ, ◌+◌, Bool, cond, ◌&&◌, List, [], ◌∷◌, ◌++◌, map, length, Some, None, Option, ◌==◌, nat_le, nat_lt}
+use Rattle.std.specs.Prelude.{ℕ, ◌+◌, Bool, if◌then◌else◌, ◌&&◌, List, [], ◌∷◌, ◌++◌, map, length, Some, None, Option, ◌==◌, nat_le, nat_lt}
 use Rattle.std.specs.List.{range_with_len}
 use Rattle.records.specs.Masks.{bytes_at, mask_at, in_range, mask_fits, links_fit}
 use Rattle.records.specs.Tables.{row_size, row_fits}
@@ -31,11 +31,11 @@ or_later (Some e) g = Some e
 -- the fault of the first test that fails
 abbrev pub failing : Section → ℕ → List Test → Option Fault
 failing s p [] = None
-failing s p (t ∷ ts) = cond t.passes (failing s p ts) (Some (fault_of t.kind s p))
+failing s p (t ∷ ts) = if t.passes then failing s p ts else Some (fault_of t.kind s p)
 
 -- what is wrong with one piece of a sheet of n bytes: its bytes are not all there, or a test fails
 abbrev pub wrong : ℕ → Piece → Option Fault
-wrong n p = cond (nat_le (p.from + p.size) n) (failing p.section p.from p.tests) (Some (fault_of EndsTooSoon p.section n))
+wrong n p = if nat_le (p.from + p.size) n then failing p.section p.from p.tests else Some (fault_of EndsTooSoon p.section n)
 
 -- the fault of the first piece that fails
 abbrev pub first_wrong : ℕ → List Piece → Option Fault
