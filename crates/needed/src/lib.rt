@@ -10,9 +10,6 @@ ghost use Rattle.needed.specs.Missing.{none_missing};
 use cases::Case;
 use policy::Policy;
 
-// How many flows have a set of their own.
-const FLOWS: u8 = 8;
-
 // The sets of switches that flows 0 to 7 need, any eight; a flow of 8 or above needs nothing. Allows the lists that have every switch that the flow needs.
 #[derive(Clone, Copy, Debug, PartialEq, Eq, Hash)]
 pub struct Needed {
@@ -26,7 +23,7 @@ impl From<&Case<'_>> for Needed {
     fn from(case: &Case<'_>) -> Needed {
         let mut masks = [0; 8];
         for (flow, mask) in masks.iter_mut().enumerate() {
-            *mask = case.needed(flow as u8).unwrap_or(0);
+            *mask = case.needed(flow as u8).unwrap_or_default();
         }
         Needed { masks }
     }
@@ -54,11 +51,10 @@ impl Policy for Needed {
     ghost tells = { λ p flow xs. none_missing p.masks flow xs };
 
     fn begin(&self, flow: u8) -> u64 {
-        if flow < FLOWS {
-            self.masks[usize::from(flow)]
-        } else {
-            0
-        }
+        self.masks
+            .get(usize::from(flow))
+            .copied()
+            .unwrap_or_default()
     }
 
     fn pass(&self, mark: u64, switch: u8) -> u64 {
