@@ -142,7 +142,7 @@ mod tests {
         );
     }
 
-    // The diamond: four switches and one flow from 0 to 3, whose middle two switches change places. The flow needs switch 1.
+    // The diamond, which `case_tests` has with nothing needed (each crate of tests holds its own sheets): four switches and one flow from 0 to 3, whose middle two switches change places. The flow needs switch 1.
     const DIAMOND: &[u8; 55] = b"\x04\
         \0\0\0\0\0\0\0\x06\0\0\0\0\0\0\0\x0c\0\0\0\0\0\0\0\x0a\0\0\0\0\0\0\0\0\
         \x01\0\x03\

@@ -51,6 +51,7 @@ impl<'a> Tables<'a> {
     pub fn movers(&self) -> u64
         ensures { MoverSet self.now.switches self.now.flows self.now.old.now self.now.new.now result }
     {
+        // A loop, since no proof closed for `filter` and `fold`: the check loses that the closure leaves the tables as they are.
         let mut set = 0;
         for s in 0..self.switches {
             if self.moves(s) {

@@ -55,7 +55,7 @@ pub fn apart(a: u64, b: u64) -> bool
     a & b == 0
 }
 
-// Whether a and b have the same switches: equal numbers are equal sets.
+// Whether a and b have the same switches: equal numbers are equal sets. A test of its own, since `==` on numbers says nothing of members.
 pub fn same(a: u64, b: u64) -> bool
     ensures { IsTrue result ↔ SameMembers a b }
 {
@@ -73,6 +73,7 @@ pub fn below(set: u64, n: u8) -> bool
 pub fn count(set: u64) -> u8
     ensures { result ≡ length (members set) }
 {
+    // at most 64: no `From` narrows, and the proof shows that nothing is lost
     set.count_ones() as u8
 }
 
@@ -83,6 +84,7 @@ pub fn lowest(set: u64) -> Option<u8>
     if set == 0 {
         None
     } else {
+        // below 64, so nothing is lost here either
         Some(set.trailing_zeros() as u8)
     }
 }

@@ -21,6 +21,7 @@ fn judge_from<R: Print + AllocGlobal>(
 }
 
 fn run<R: Print + Env + Files + AllocGlobal>(rt: &R) -> anyhow::Result<()> {
+    // A flag, since a word of the command line bears on the next one that is no `cut`.
     let mut cut = false;
     for word in env::args(rt)?.skip(1) {
         if word.as_str() == "cut" {

@@ -50,6 +50,7 @@ impl<'a, S: Sheet> Reader<'a, S> {
     {
         let sheet = self.sheet;
         let from = self.at;
+        // Byte by byte, as the layers go: it is the byte that is missing.
         for _ in 0..size {
             self.byte(section)?;
         }
