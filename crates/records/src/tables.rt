@@ -1,6 +1,6 @@
 // Rows of a table, and the movers between two tables.
 ghost use Rattle.std.specs.Prelude.{◌≡◌, ◌+◌, ◌*◌, ◌<◌, ◌≤◌, length, MatchOption};
-ghost use Rattle.records.specs.Tables.{row_size, table_row, rows_differ, WholeTables, MoverSet};
+ghost use Rattle.records.specs.Tables.{row_size, table_row, rows_differ, WholeTables};
 
 // The old and the new table of a network: a row for each switch, and in it an entry for each flow.
 #[derive(Clone, Copy, Debug)]
@@ -23,6 +23,8 @@ fn row(table: &[u8], flows: u8, s: u8) -> &[u8]
 }
 
 impl<'a> Tables<'a> {
+    ghost use Rattle.records.specs.Between.{MoversBetween};
+
     // Two tables with rows for n switches and f flows. None where there are more switches than a set can have, or a table is shorter than that.
     pub fn new(old: &'a [u8], new: &'a [u8], n: u8, f: u8) -> Option<Tables<'a>>
         ensures { MatchOption result (WholeTables n f old.now new.now → ⊥) (λ t. (t.old.now ≡ old.now) × (t.new.now ≡ new.now) × (t.switches ≡ n) × (t.flows ≡ f)) }
@@ -49,7 +51,7 @@ impl<'a> Tables<'a> {
 
     // The set of the switches whose rows differ.
     pub fn movers(&self) -> u64
-        ensures { MoverSet self.now.switches self.now.flows self.now.old.now self.now.new.now result }
+        ensures { MoversBetween self.now result }
     {
         // A loop, since no proof closed for `filter` and `fold`: the check loses that the closure leaves the tables as they are.
         let mut set = 0;
