@@ -17,8 +17,8 @@ use Rattle.faults.specs.declared.Section.TheVariants.{A, B, C, D, E}
 use Rattle.faults.specs.Faults.{fault_of}
 use Rattle.sheet.specs.Layout.{byte_at, switches, links_from, links, flows, flows_from, ends_from, row_from, old_from, new_from, mask_from, needed_from, sheet_end}
 use Rattle.sheet.specs.Pieces.{Piece, test_of, or_later, failing, wrong, first_wrong, piece, switch_count, link_mask, flow_count, flow_ends, same_count, switch_row, needed_mask, no_more, few_movers_piece, counted, section_a, section_b, table_section, needed_section, sheet_pieces, first_fault}
-use Rattle.sheet.proofs.Firsts.{first_append, closing, from_b, from_c, from_d, from_e}
-use Rattle.cases.proofs.Lawfuls.{lawful_from_none, section_right, within_right, one_right}
+use Rattle.sheet.proofs.Firsts.{first_append, or_later_none, closing, from_b, from_c, from_d, from_e}
+use Rattle.cases.proofs.Lawfuls.{sheet_right, counts_few}
 
 -- ---- equal faults, piece by piece
 
@@ -83,8 +83,8 @@ module _ (bs : List ℕ) (k : ℕ) (long : k < length bs) (enough : 1622 ≤ k) 
       (same (switch_count cs) (switch_count bs) (ap (λ n. piece A 0 1 SwitchCount (in_range 64 n)) n_same) (omega arith))
       n_same
       (λ none s h.
-      let few = within_right 64 (switches bs) (one_right (length bs) A 0 1 SwitchCount (in_range 64 (switches bs)) none).1 in
-      same (link_mask cs s) (link_mask bs s) (ap (λ n. piece A (links_from s) 8 LinkMask (links_fit n s (links cs s))) n_same ∙ ap (λ m. piece A (links_from s) 8 LinkMask (links_fit (switches bs) s m)) (links_same s (omega (arith, few.1, h)))) (omega (arith, few.1, h)))
+      let few = counts_few (length bs) bs A SwitchCount 64 0 none in
+      same (link_mask cs s) (link_mask bs s) (ap (λ n. piece A (links_from s) 8 LinkMask (links_fit n s (links cs s))) n_same ∙ ap (λ m. piece A (links_from s) 8 LinkMask (links_fit (switches bs) s m)) (links_same s (omega (arith, few, h)))) (omega (arith, few, h)))
 
   module _ (few : switches bs ≤ 64) where
     f_same : flows cs ≡ flows bs
@@ -100,9 +100,9 @@ module _ (bs : List ℕ) (k : ℕ) (long : k < length bs) (enough : 1622 ≤ k) 
         (same (flow_count cs) (flow_count bs) (piece_same B (flows_from cs) (flows_from bs) 1 1 FlowCount (in_range 8 (flows cs)) (in_range 8 (flows bs)) (ap links_from n_same) refl (ap (in_range 8) f_same)) (omega (arith, few)))
         f_same
         (λ none j h.
-        let light = within_right 8 (flows bs) (one_right (length bs) B (flows_from bs) 1 FlowCount (in_range 8 (flows bs)) none).1 in
+        let light = counts_few (length bs) bs B FlowCount 8 (flows_from bs) none in
         let p = ends_from bs j in
-        let low : p + 2 ≤ k = omega (arith, few, light.1, h) in
+        let low : p + 2 ≤ k = omega (arith, few, light, h) in
         let e : flow_ends cs p ≡ flow_ends bs p = piece_same B p p 2 2 FlowEnds (ltb (byte_at cs p) (switches cs) && ltb (byte_at cs (p + 1)) (switches cs)) (ltb (byte_at bs p) (switches bs) && ltb (byte_at bs (p + 1)) (switches bs)) refl refl (ap (λ n. ltb (byte_at cs p) n && ltb (byte_at cs (p + 1)) n) n_same ∙ ap (λ x. ltb x (switches bs) && ltb (byte_at cs (p + 1)) (switches bs)) (byte_same p (omega arith)) ∙ ap (λ x. ltb (byte_at bs p) (switches bs) && ltb x (switches bs)) (byte_same (p + 1) (omega arith))) in
         same (flow_ends cs (ends_from cs j)) (flow_ends bs p) (ap (flow_ends cs) (ends_same j) ∙ e) low)
 
@@ -174,11 +174,11 @@ module _ (bs : List ℕ) (k : ℕ) (long : k < length bs) (enough : 1622 ≤ k) 
 
   few_from_a : first_wrong (length bs) (section_a bs) ≡ None → switches bs ≤ 64
   unfolding section_a
-  few_from_a none = (within_right 64 (switches bs) (one_right (length bs) A 0 1 SwitchCount (in_range 64 (switches bs)) (section_right (length bs) (switch_count bs) (link_mask bs) (switches bs) none).first).1).1
+  few_from_a none = counts_few (length bs) bs A SwitchCount 64 0 (or_later_none _ _ none).0
 
   light_from_b : first_wrong (length bs) (section_b bs) ≡ None → flows bs ≤ 8
   unfolding section_b
-  light_from_b none = (within_right 8 (flows bs) (one_right (length bs) B (flows_from bs) 1 FlowCount (in_range 8 (flows bs)) (section_right (length bs) (flow_count bs) (λ j. flow_ends bs (ends_from bs j)) (flows bs) none).first).1).1
+  light_from_b none = counts_few (length bs) bs B FlowCount 8 (flows_from bs) (or_later_none _ _ none).0
 
   pub start_same : first_fault cs ≡ first_fault bs
   unfolding sheet_pieces
@@ -200,5 +200,5 @@ first_bytes bs = elim (cases_lt 1622 (length bs)) [ inl long ↦ start_same bs 1
 -- no lawful sheet has more than 1,621
 pub lawful_short : (bs : List ℕ) → first_fault bs ≡ None → length bs ≤ 1621
 lawful_short bs none =
-    let l = lawful_from_none bs none in
+    let l = (sheet_right bs).0 none in
     omega (arith, l.ends_there, l.some_switches.1, l.some_flows.1, mul-le (switches bs) (flows bs) 64 8 l.some_switches.1 l.some_flows.1)
