@@ -1,30 +1,27 @@
 -- What is told of a sheet hangs on its first 1,622 bytes alone.
-use Rattle.std.proofs.Common.{◌≡◌, ℕ, zero, suc, ◌+◌, ◌-◌, ◌*◌, ◌<◌, ◌≤◌, Bool, cond, ◌&&◌, eqb, ltb, leb, List, [], ◌∷◌, ◌++◌, map, length, take, drop, Some, None, Option, sym, refl, ap, ◌∙◌, inl, inr, arith}
+use Rattle.std.proofs.Common.{◌≡◌, ℕ, zero, suc, ◌+◌, ◌-◌, ◌*◌, ◌<◌, ◌≤◌, leb, List, [], ◌∷◌, ◌++◌, map, length, take, drop, Some, None, Option, sym, refl, ap, ◌∙◌, inl, inr, arith}
 use Rattle.std.specs.List.{range_with_len}
-use Rattle.std.specs.Int.Digits.{number_from_digits}
 use Rattle.std.proofs.lemmas.Nat.{mul-le}
 use Rattle.std.proofs.lemmas.List.{get_or-take, length-take, take_all, take-take}
 use Rattle.std.proofs.lemmas.Slice.{between_is}
 use Rattle.std.proofs.lemmas.Bool.{cases_lt, le-leb, lt-leb}
-use Rattle.records.specs.Masks.{bytes_at, mask_at, in_range, mask_fits, links_fit}
-use Rattle.records.specs.Tables.{row_fits}
+use Rattle.records.specs.Masks.{bytes_at}
 use Rattle.records.proofs.Rows.{row_inside}
-use Rattle.faults.specs.declared.FaultKind.{FaultKind}
-use Rattle.faults.specs.declared.FaultKind.TheVariants.{EndsTooSoon, SwitchCount, LinkMask, FlowCount, FlowEnds, SectionCount, Hop, NeededMask, BytesFollow}
+use Rattle.faults.specs.declared.FaultKind.TheVariants.{SwitchCount, FlowCount, BytesFollow}
 use Rattle.faults.specs.declared.Fault.{Fault}
 use Rattle.faults.specs.declared.Section.{Section}
 use Rattle.faults.specs.declared.Section.TheVariants.{A, B, C, D, E}
 use Rattle.faults.specs.Faults.{fault_of}
 use Rattle.sheet.specs.Layout.{byte_at, switches, links_from, links, flows, flows_from, ends_from, row_from, old_from, new_from, mask_from, needed_from, sheet_end}
-use Rattle.sheet.specs.Pieces.{Piece, test_of, or_later, failing, wrong, first_wrong, piece, switch_count, link_mask, flow_count, flow_ends, same_count, switch_row, needed_mask, no_more, few_movers_piece, counted, section_a, section_b, table_section, needed_section, sheet_pieces, first_fault}
+use Rattle.sheet.specs.Pieces.{Piece, or_later, wrong, first_wrong, piece, switch_count, link_mask, flow_count, flow_ends, same_count, switch_row, needed_mask, no_more, few_movers_piece, counted, section_a, section_b, table_section, needed_section, sheet_pieces, first_fault}
 use Rattle.sheet.proofs.Firsts.{first_append, or_later_none, closing, from_b, from_c, from_d, from_e}
 use Rattle.cases.proofs.Lawfuls.{sheet_right, counts_few}
 
 -- ---- equal faults, piece by piece
 
 or_later_same : (a x b y : Option Fault) → a ≡ x → (x ≡ None → b ≡ y) → or_later a b ≡ or_later x y
-or_later_same a None b y e h = ap (λ o. or_later o b) e ∙ h refl
-or_later_same a (Some z) b y e h = ap (λ o. or_later o b) e
+or_later_same a None b y e h = rw e (h refl)
+or_later_same a (Some z) b y e h = rw e
 
 items_same : (n k : ℕ) (f g : ℕ → Piece) (m a : ℕ) → ((i : ℕ) → a ≤ i → i < a + m → wrong n (f i) ≡ wrong k (g i)) → first_wrong n (map f (range_with_len a m)) ≡ first_wrong k (map g (range_with_len a m))
 items_same n k f g zero a all = refl
@@ -40,9 +37,6 @@ counted_same n k p q f g l m head e all =
 
 joined_same : (n k : ℕ) (ps qs us vs : List Piece) → first_wrong n ps ≡ first_wrong k us → (first_wrong k us ≡ None → first_wrong n qs ≡ first_wrong k vs) → first_wrong n (ps ++ qs) ≡ first_wrong k (us ++ vs)
 joined_same n k ps qs us vs e h = first_append n ps qs ∙ or_later_same (first_wrong n ps) (first_wrong k us) (first_wrong n qs) (first_wrong k vs) e h ∙ sym (first_append k us vs)
-
-piece_same : (c : Section) (p q k m : ℕ) (kind : FaultKind) (x y : Bool) → p ≡ q → k ≡ m → x ≡ y → piece c p k kind x ≡ piece c q m kind y
-piece_same c p q k m kind x y ep ek ex = ap (λ a. piece c a k kind x) ep ∙ ap (λ a. piece c q a kind x) ek ∙ ap (λ a. piece c q m kind a) ex
 
 -- ---- the first k bytes of a longer sheet
 
@@ -60,51 +54,43 @@ module _ (bs : List ℕ) (k : ℕ) (long : k < length bs) (enough : 1622 ≤ k) 
   bytes_same p m h = ap (take m) (sym (between_is bs p k)) ∙ take-take m (k - p) (drop p bs) (omega arith)
 
   -- a piece that lies within the first k bytes
-  inside : (p : Piece) → p.from + p.size ≤ k → wrong (length cs) p ≡ wrong (length bs) p
-  inside p h =
-      let told = Some (fault_of EndsTooSoon p.section (length cs)) in
-      let f = failing p.section p.from p.tests in
-      ap (λ b. cond b f told) (le-leb (p.from + p.size) (length cs) (omega (arith, size)))
-      ∙ sym (ap (λ b. cond b f (Some (fault_of EndsTooSoon p.section (length bs)))) (le-leb (p.from + p.size) (length bs) (omega arith)))
-
   same : (p q : Piece) → p ≡ q → q.from + q.size ≤ k → wrong (length cs) p ≡ wrong (length bs) q
-  same p q e h = ap (wrong (length cs)) e ∙ inside q h
+  same p q e h = rw (e, le-leb (q.from + q.size) (length cs) (omega (arith, size)), le-leb (q.from + q.size) (length bs) (omega arith))
 
   n_same : switches cs ≡ switches bs
   n_same = byte_same 0 (omega arith)
 
   links_same : (s : ℕ) → s < 64 → links cs s ≡ links bs s
-  links_same s h = ap (number_from_digits 256) (bytes_same (links_from s) 8 (omega arith))
+  links_same s h = rw (bytes_same (links_from s) 8 (omega arith))
 
   a_same : first_wrong (length cs) (section_a cs) ≡ first_wrong (length bs) (section_a bs)
   unfolding section_a
   a_same =
       counted_same (length cs) (length bs) (switch_count cs) (switch_count bs) (link_mask cs) (link_mask bs) (switches cs) (switches bs)
-      (same (switch_count cs) (switch_count bs) (ap (λ n. piece A 0 1 SwitchCount (in_range 64 n)) n_same) (omega arith))
+      (same (switch_count cs) (switch_count bs) (cc n_same) (omega arith))
       n_same
       (λ none s h.
       let few = counts_few (length bs) bs A SwitchCount 64 0 none in
-      same (link_mask cs s) (link_mask bs s) (ap (λ n. piece A (links_from s) 8 LinkMask (links_fit n s (links cs s))) n_same ∙ ap (λ m. piece A (links_from s) 8 LinkMask (links_fit (switches bs) s m)) (links_same s (omega (arith, few, h)))) (omega (arith, few, h)))
+      same (link_mask cs s) (link_mask bs s) (cc (n_same, links_same s (omega (arith, few, h)))) (omega (arith, few, h)))
 
   module _ (few : switches bs ≤ 64) where
     f_same : flows cs ≡ flows bs
-    f_same = ap (λ n. byte_at cs (links_from n)) n_same ∙ byte_same (flows_from bs) (omega (arith, few))
+    f_same = rw n_same (byte_same (flows_from bs) (omega (arith, few)))
 
     ends_same : (j : ℕ) → ends_from cs j ≡ ends_from bs j
-    ends_same j = ap (λ n. links_from n + 1 + 2 * j) n_same
+    ends_same j = rw n_same
 
     b_same : first_wrong (length cs) (section_b cs) ≡ first_wrong (length bs) (section_b bs)
     unfolding section_b
     b_same =
         counted_same (length cs) (length bs) (flow_count cs) (flow_count bs) (λ j. flow_ends cs (ends_from cs j)) (λ j. flow_ends bs (ends_from bs j)) (flows cs) (flows bs)
-        (same (flow_count cs) (flow_count bs) (piece_same B (flows_from cs) (flows_from bs) 1 1 FlowCount (in_range 8 (flows cs)) (in_range 8 (flows bs)) (ap links_from n_same) refl (ap (in_range 8) f_same)) (omega (arith, few)))
+        (same (flow_count cs) (flow_count bs) (cc (n_same, f_same)) (omega (arith, few)))
         f_same
         (λ none j h.
         let light = counts_few (length bs) bs B FlowCount 8 (flows_from bs) none in
         let p = ends_from bs j in
         let low : p + 2 ≤ k = omega (arith, few, light, h) in
-        let e : flow_ends cs p ≡ flow_ends bs p = piece_same B p p 2 2 FlowEnds (ltb (byte_at cs p) (switches cs) && ltb (byte_at cs (p + 1)) (switches cs)) (ltb (byte_at bs p) (switches bs) && ltb (byte_at bs (p + 1)) (switches bs)) refl refl (ap (λ n. ltb (byte_at cs p) n && ltb (byte_at cs (p + 1)) n) n_same ∙ ap (λ x. ltb x (switches bs) && ltb (byte_at cs (p + 1)) (switches bs)) (byte_same p (omega arith)) ∙ ap (λ x. ltb (byte_at bs p) (switches bs) && ltb x (switches bs)) (byte_same (p + 1) (omega arith))) in
-        same (flow_ends cs (ends_from cs j)) (flow_ends bs p) (ap (flow_ends cs) (ends_same j) ∙ e) low)
+        same (flow_ends cs (ends_from cs j)) (flow_ends bs p) (cc (n_same, byte_same p (omega arith), byte_same (p + 1) (omega arith))) low)
 
     module _ (light : flows bs ≤ 8) where
       product : switches bs * flows bs ≤ 512
@@ -112,8 +98,7 @@ module _ (bs : List ℕ) (k : ℕ) (long : k < length bs) (enough : 1622 ≤ k) 
 
       count_same : (c : Section) (p q x y : ℕ) → p ≡ q → x ≡ y → q + 1 ≤ k → wrong (length cs) (same_count cs c p x) ≡ wrong (length bs) (same_count bs c q y)
       count_same c p q x y ep ex low =
-          same (same_count cs c p x) (same_count bs c q y)
-          (ap (λ a. same_count cs c a x) ep ∙ ap (λ a. same_count cs c q a) ex ∙ ap (λ b. piece c q 1 SectionCount (eqb b y)) (byte_same q (omega arith))) low
+          same (same_count cs c p x) (same_count bs c q y) (cc (byte_same q (omega arith))) low
 
       table_same : (c : Section) (p q : ℕ) → p ≡ q → q + 513 ≤ k → first_wrong (length cs) (table_section cs c p) ≡ first_wrong (length bs) (table_section bs c q)
       unfolding table_section
@@ -124,15 +109,13 @@ module _ (bs : List ℕ) (k : ℕ) (long : k < length bs) (enough : 1622 ≤ k) 
           (λ none s h.
           let at = row_from bs q s in
           let there : at + flows bs ≤ k = omega (arith, row_inside (switches bs) (flows bs) s (switches bs * flows bs) h (omega arith), product, low) in
-          let place : row_from cs p s ≡ at = ap (λ a. a + 1 + s * flows cs) ep ∙ ap (λ f. q + 1 + s * f) f_same in
-          let e : switch_row cs c at s ≡ switch_row bs c at s = ap (λ f. piece c at f Hop (row_fits (links cs s) (bytes_at cs at f))) f_same ∙ ap (λ m. piece c at (flows bs) Hop (row_fits m (bytes_at cs at (flows bs)))) (links_same s (omega (arith, few, h))) ∙ ap (λ l. piece c at (flows bs) Hop (row_fits (links bs s) l)) (bytes_same at (flows bs) there) in
-          same (switch_row cs c (row_from cs p s) s) (switch_row bs c at s) (ap (λ a. switch_row cs c a s) place ∙ e) there)
+          same (switch_row cs c (row_from cs p s) s) (switch_row bs c at s) (cc (f_same, links_same s (omega (arith, few, h)), bytes_same at (flows bs) there)) there)
 
       old_same : old_from cs ≡ old_from bs
-      old_same = ap (ends_from cs) f_same ∙ ends_same (flows bs)
+      old_same = cc (n_same, f_same)
 
       after_same : (p q : ℕ) → p ≡ q → row_from cs p (switches cs) ≡ row_from bs q (switches bs)
-      after_same p q ep = ap (λ a. a + 1 + switches cs * flows cs) ep ∙ ap (λ n. q + 1 + n * flows cs) n_same ∙ ap (λ f. q + 1 + switches bs * f) f_same
+      after_same p q ep = cc (n_same, f_same)
 
       new_same : new_from cs ≡ new_from bs
       new_same = after_same (old_from cs) (old_from bs) old_same
@@ -149,18 +132,14 @@ module _ (bs : List ℕ) (k : ℕ) (long : k < length bs) (enough : 1622 ≤ k) 
           (λ none j h.
           let at = mask_from (needed_from bs) j in
           let there : at + 8 ≤ k = omega (arith, few, light, product, h) in
-          let e : needed_mask cs at ≡ needed_mask bs at = ap (λ n. piece E at 8 NeededMask (mask_fits n (mask_at cs at))) n_same ∙ ap (λ l. piece E at 8 NeededMask (mask_fits (switches bs) (number_from_digits 256 l))) (bytes_same at 8 there) in
-          same (needed_mask cs (mask_from (needed_from cs) j)) (needed_mask bs at) (ap (λ a. needed_mask cs (mask_from a j)) needed_from_same ∙ e) there)
+          same (needed_mask cs (mask_from (needed_from cs) j)) (needed_mask bs at) (cc (n_same, needed_from_same, bytes_same at 8 there)) there)
 
       -- bytes follow, in the beginning too
       more_told : (ds : List ℕ) (p : ℕ) → p < length ds → wrong (length ds) (piece E p 0 BytesFollow (leb (length ds) p)) ≡ Some (fault_of BytesFollow E p)
-      more_told ds p h =
-          let f = failing E p (test_of BytesFollow (leb (length ds) p)) in
-          ap (λ b. cond b f (Some (fault_of EndsTooSoon E (length ds)))) (le-leb (p + 0) (length ds) (omega arith))
-          ∙ ap (λ b. cond b None (Some (fault_of BytesFollow E p))) (lt-leb (length ds) p h)
+      more_told ds p h = rw (le-leb (p + 0) (length ds) (omega arith), lt-leb (length ds) p h)
 
       end_same : sheet_end cs ≡ sheet_end bs
-      end_same = ap (λ a. mask_from a (flows cs)) needed_from_same ∙ ap (mask_from (needed_from bs)) f_same
+      end_same = cc (needed_from_same, f_same)
 
       more_same : wrong (length cs) (no_more cs) ≡ wrong (length bs) (no_more bs)
       more_same =
