@@ -26,17 +26,14 @@ or_later_same a (Some z) b y e h = rw e
 items_same : (n k : ℕ) (f g : ℕ → Piece) (m a : ℕ) → ((i : ℕ) → a ≤ i → i < a + m → wrong n (f i) ≡ wrong k (g i)) → first_wrong n (map f (range_with_len a m)) ≡ first_wrong k (map g (range_with_len a m))
 items_same n k f g zero a all = refl
 items_same n k f g (suc m) a all =
-    or_later_same (wrong n (f a)) (wrong k (g a)) (first_wrong n (map f (range_with_len (a + 1) m))) (first_wrong k (map g (range_with_len (a + 1) m)))
-    (all a (omega arith) (omega arith))
-    (λ _. items_same n k f g m (a + 1) (λ i low high. all i (omega arith) (omega arith)))
+    let rest = items_same n k f g m (a + 1) (λ i low high. all i (omega arith) (omega arith)) in
+    cc (all a (omega arith) (omega arith))
 
 counted_same : (n k : ℕ) (p q : Piece) (f g : ℕ → Piece) (l m : ℕ) → wrong n p ≡ wrong k q → l ≡ m → (wrong k q ≡ None → (i : ℕ) → i < m → wrong n (f i) ≡ wrong k (g i)) → first_wrong n (counted p f l) ≡ first_wrong k (counted q g m)
-counted_same n k p q f g l m head e all =
-    or_later_same (wrong n p) (wrong k q) (first_wrong n (map f (range_with_len 0 l))) (first_wrong k (map g (range_with_len 0 m))) head
-    (λ none. ap (λ j. first_wrong n (map f (range_with_len 0 j))) e ∙ items_same n k f g m 0 (λ i low high. all none i (omega arith)))
+counted_same n k p q f g l m head e all = rw e (or_later_same _ _ _ _ head (λ none. items_same n k f g m 0 (λ i low high. all none i (omega arith))))
 
 joined_same : (n k : ℕ) (ps qs us vs : List Piece) → first_wrong n ps ≡ first_wrong k us → (first_wrong k us ≡ None → first_wrong n qs ≡ first_wrong k vs) → first_wrong n (ps ++ qs) ≡ first_wrong k (us ++ vs)
-joined_same n k ps qs us vs e h = first_append n ps qs ∙ or_later_same (first_wrong n ps) (first_wrong k us) (first_wrong n qs) (first_wrong k vs) e h ∙ sym (first_append k us vs)
+joined_same n k ps qs us vs e h = simp first_append (or_later_same _ _ _ _ e h)
 
 -- ---- the first k bytes of a longer sheet
 
