@@ -1,6 +1,5 @@
 -- The laws of sets in terms of their members. Layers above cite these, and not the bits.
-use Rattle.std.proofs.Common.{◌≡◌, ℕ, zero, suc, ◌+◌, ◌-◌, ◌*◌, ◌/◌, ◌%◌, ◌^◌, ◌<◌, ◌≤◌, Bool, true, false, cond, eqb, ltb, ◌≢◌, ◌⊎◌, List, [], ◌∷◌, ◌++◌, length, Decides, filter, sym, refl, ap, ◌∙◌, subst, inl, inr, add-zero, pow-suc, zero-add, div-one, arith}
-use native.Mathlib.Nat.{div-eq_of_lt}
+use Rattle.std.proofs.Common.{◌≡◌, ℕ, zero, suc, ◌+◌, ◌-◌, ◌*◌, ◌/◌, ◌%◌, ◌^◌, ◌<◌, ◌≤◌, Bool, true, false, cond, eqb, ltb, ◌⊎◌, List, [], ◌∷◌, ◌++◌, length, Decides, filter, sym, refl, ap, ◌∙◌, subst, inl, inr, add-zero, pow-suc, zero-add, div-one, arith}
 use lib.Arith.{bin_ind}
 use lib.Bits.{bit_and, bit_or, bit_xor}
 use lib.Count.{ones, ones_step, ones-ones}
@@ -8,8 +7,9 @@ use Rattle.std.specs.Bool.{one_answer}
 use Rattle.std.specs.Int.{w64, bit_not, trailing_zeros}
 use Rattle.std.specs.List.{range_with_len}
 use Rattle.std.proofs.lemmas.Nat.{pow_pos, shr-shr, div_below, div-add-mod', mod_below}
-use Rattle.std.proofs.lemmas.Nat.Bits.{bit_at-suc, bit_at-zero, bit_at_and, bit_at_or, bit_at_xor, bit_at-pow_same, bit_at-pow_other, bit_at-trailing_zeros, bit_at_clear_same, bit_at_clear_other, same_from_bits}
-use Rattle.std.proofs.lemmas.Bool.{cases_eq, cases_lt, eq-eqb, ne_eqb, eqb-true, ltb-true, lt-ltb, both_ways}
+use Rattle.std.proofs.lemmas.Nat.Bits.{bit_at-suc, bit_at-zero, bit_at_and, bit_at_or, bit_at_xor, bit_at-pow_same, bit_at-pow_other, bit_at-trailing_zeros, bit_at_clear_same, bit_at_above, bit_at_clear_other, same_from_bits}
+use Rattle.std.proofs.lemmas.Bool.{cases_eq, cases_lt, eq-eqb, ne_eqb, eqb-true, both_ways}
+use Rattle.std.proofs.lemmas.Bool.Decides.{Decides-like, Decides-eqb, Decides-ltb}
 use Rattle.std.proofs.lemmas.List.Elements.{filter-append}
 use Rattle.std.proofs.lemmas.List.{append-nil}
 use Rattle.sets.specs.Sets.{bit, InSet, Exactly, PartOf, Disjoint, SameMembers, MembersBelow, Empty, Lowest, members}
@@ -50,43 +50,31 @@ some_member = bin_ind (λ m. (m ≡ 0) ⊎ ((s : ℕ) × InSet m s)) (inl refl) 
 
 -- union
 pub or_members : (a b : ℕ) → Exactly (bit_or a b) (λ t. InSet a t ⊎ InSet b t)
-or_members a b = record {
-  each = λ t h. elim (cases_member a t) [ inl k ↦ inl k | inr z ↦ inr (omega (arith, bit_at_or a b t, h)) ];
-  all = λ t h. elim h [ inl k ↦ omega (arith, bit_at_or a b t, k) | inr k ↦ omega (arith, bit_at_or a b t, k) ];
-}
+or_members a b = record { each = λ t h. grind (arith, bit_at_or a b t); all = λ t h. grind (arith, bit_at_or a b t) }
 
 -- intersection
 pub and_members : (a b : ℕ) → Exactly (bit_and a b) (λ t. InSet a t × InSet b t)
-and_members a b = record {
-  each = λ t h. (omega (arith, bit_at_and a b t, h), omega (arith, bit_at_and a b t, h));
-  all = λ t h. omega (arith, bit_at_and a b t, h.0, h.1);
-}
+and_members a b = record { each = λ t h. grind (arith, bit_at_and a b t); all = λ t h. grind (arith, bit_at_and a b t) }
 
 -- the set of one switch
 pub one_member : (s t : ℕ) → InSet (2 ^ s) t → t ≡ s
-one_member s t h = elim (cases_eq s t) [ inl e ↦ sym e | inr ne ↦ absurd (no_member (2 ^ s) t (bit_at-pow_other s t (λ e. ne (sym e))) h) ]
+one_member s t h = grind (arith, bit_at-pow_other)
 
 -- one switch more
 pub with_members : (m s : ℕ) → Exactly (bit_or m (2 ^ s)) (λ t. InSet m t ⊎ (t ≡ s))
 with_members m s = record {
-  each = λ t h. elim ((or_members m (2 ^ s)).each t h) [ inl k ↦ inl k | inr k ↦ inr (one_member s t k) ];
-  all = λ t h. (or_members m (2 ^ s)).all t (elim h [ inl k ↦ inl k | inr e ↦ inr (ap (bit (2 ^ s)) e ∙ bit_at-pow_same s) ]);
+  each = λ t h. grind (arith, bit_at_or m (2 ^ s) t, bit_at-pow_other);
+  all = λ t h. elim h [ inl k ↦ omega (arith, bit_at_or m (2 ^ s) t) | inr e ↦ rw e (omega (arith, bit_at_or m (2 ^ s) s, bit_at-pow_same s)) ];
 }
 
 -- one switch less
-bit_without : (m s t : ℕ) → s ≢ t → bit (bit_xor (bit_or m (2 ^ s)) (2 ^ s)) t ≡ bit m t
-bit_without m s t ne = omega (arith, bit_at_xor (bit_or m (2 ^ s)) (2 ^ s) t, bit_at_or m (2 ^ s) t, bit_at-pow_other s t (λ e. ne (sym e)))
-
-bit_gone : (m s : ℕ) → bit (bit_xor (bit_or m (2 ^ s)) (2 ^ s)) s ≡ 0
-bit_gone m s = omega (arith, bit_at_xor (bit_or m (2 ^ s)) (2 ^ s) s, bit_at_or m (2 ^ s) s, bit_at-pow_same s)
-
 pub without_members : (m s : ℕ) → Exactly (bit_xor (bit_or m (2 ^ s)) (2 ^ s)) (λ t. InSet m t × (t ≡ s → ⊥))
 without_members m s = record {
-  each = λ t h. elim (cases_eq s t) [
-    | inl e ↦ absurd (no_member (bit_xor (bit_or m (2 ^ s)) (2 ^ s)) t (ap (bit (bit_xor (bit_or m (2 ^ s)) (2 ^ s))) (sym e) ∙ bit_gone m s) h)
-    | inr ne ↦ (sym (bit_without m s t ne) ∙ h, (λ e. ne (sym e)))
+  each = λ t h. elim (cases_eq t s) [
+    | inl e ↦ absurd (omega (arith, bit_at_xor (bit_or m (2 ^ s)) (2 ^ s) s, bit_at_or m (2 ^ s) s, bit_at-pow_same s, rw e at h))
+    | inr ne ↦ (omega (arith, bit_at_xor (bit_or m (2 ^ s)) (2 ^ s) t, bit_at_or m (2 ^ s) t, bit_at-pow_other s t ne), ne)
   ];
-  all = λ t h. bit_without m s t (λ e. h.1 (sym e)) ∙ h.0;
+  all = λ t h. omega (arith, bit_at_xor (bit_or m (2 ^ s)) (2 ^ s) t, bit_at_or m (2 ^ s) t, bit_at-pow_other s t h.1, h.0);
 }
 
 -- part of, apart, the same, by the tests of the code
@@ -109,29 +97,17 @@ same_test a b = (
 )
 
 -- a set below n is a number below 2 ^ n
-bit_shr : (m s t : ℕ) → bit (m / 2 ^ s) t ≡ bit m (s + t)
-bit_shr m s t = ap (λ n. n % 2) (shr-shr m s t)
+pub number_below : (n m : ℕ) → m < 2 ^ n → MembersBelow n m
+number_below n m h s in' = elim (cases_lt s n) [ inl l ↦ l | inr ge ↦ absurd (no_member m s (bit_at_above m n s h ge) in') ]
 
 pub below_quotient : (n m : ℕ) → MembersBelow n m → m / 2 ^ n ≡ 0
-below_quotient n m p = no_bits (m / 2 ^ n) (λ t. bit_shr m n t ∙ not_member m (n + t) (λ h. omega (arith, p (n + t) h)))
-
-pub below_members : (n m : ℕ) → m / 2 ^ n ≡ 0 → MembersBelow n m
-below_members n m z s h =
-    elim (cases_lt s n) [
-      | inl l ↦ l
-      | inr ge ↦
-          let at : n + (s - n) ≡ s = omega arith in
-          absurd (no_member m s (ap (bit m) (sym at) ∙ sym (bit_shr m n (s - n)) ∙ ap (λ k. bit k (s - n)) z ∙ bit_at-zero (s - n)) h)
-    ]
-
-pub below_test : (n m : ℕ) → Decides (eqb (m / 2 ^ n) 0) (MembersBelow n m)
-below_test n m = ((λ e. below_members n m (eqb-true (m / 2 ^ n) 0 e)), (λ p. eq-eqb (m / 2 ^ n) 0 (below_quotient n m p)))
+below_quotient n m p = no_bits (m / 2 ^ n) (λ t. rw (shr-shr m n t) (not_member m (n + t) (λ h. omega (arith, p (n + t) h))))
 
 pub below_number : (n m : ℕ) → MembersBelow n m → m < 2 ^ n
 below_number n m p = let q = below_quotient n m p in omega (arith, div-add-mod' m (2 ^ n), ap (λ k. k * 2 ^ n) q, mod_below m (2 ^ n) (pow_pos n))
 
-pub number_below : (n m : ℕ) → m < 2 ^ n → MembersBelow n m
-number_below n m h = below_members n m (div-eq_of_lt h)
+pub below_test : (n m : ℕ) → Decides (eqb (m / 2 ^ n) 0) (MembersBelow n m)
+below_test n m = Decides-like (eqb (m / 2 ^ n) 0) (λ q. number_below n m (omega (arith, div-add-mod' m (2 ^ n), ap (λ k. k * 2 ^ n) q, mod_below m (2 ^ n) (pow_pos n)))) (below_quotient n m) (Decides-eqb (m / 2 ^ n) 0)
 
 -- how many members there are is how many bits are set
 count_from : (m k a : ℕ) → m / 2 ^ a < 2 ^ k → length (filter (λ s. eqb (bit m s) 1) (range_with_len a k)) ≡ ones (m / 2 ^ a)
@@ -166,10 +142,10 @@ cleared_members m s small within =
 
 -- tests of one question
 pub below_ltb : (n m : ℕ) → Decides (ltb m (2 ^ n)) (MembersBelow n m)
-below_ltb n m = ((λ e. number_below n m (ltb-true m (2 ^ n) e)), (λ p. lt-ltb m (2 ^ n) (below_number n m p)))
+below_ltb n m = Decides-like (ltb m (2 ^ n)) (number_below n m) (below_number n m) (Decides-ltb m (2 ^ n))
 
 pub member_eqb : (m s : ℕ) → Decides (eqb (bit m s) 1) (InSet m s)
-member_eqb m s = ((λ e. eqb-true (bit m s) 1 e), (λ h. eq-eqb (bit m s) 1 h))
+member_eqb m s = Decides-eqb (bit m s) 1
 
 -- a set built by a loop that puts in each switch below n of which a test says yes
 abbrev pub Chosen : ℕ → (ℕ → Bool) → ℕ → Type 0
