@@ -1,5 +1,5 @@
 -- The laws of sets in terms of their members. Layers above cite these, and not the bits.
-use Rattle.std.proofs.Common.{◌≡◌, ℕ, zero, suc, ◌+◌, ◌-◌, ◌*◌, ◌/◌, ◌%◌, ◌^◌, ◌<◌, ◌≤◌, Bool, true, false, cond, eqb, ltb, ◌⊎◌, List, [], ◌∷◌, ◌++◌, length, Decides, filter, sym, refl, ap, ◌∙◌, inl, inr, add-one, add-zero, pow-suc, div-one, arith, Contains, ◌↔◌}
+use Rattle.std.proofs.Common.{◌≡◌, ℕ, zero, suc, ◌+◌, ◌-◌, ◌*◌, ◌/◌, ◌%◌, ◌^◌, ◌<◌, ◌≤◌, Bool, true, false, cond, eqb, ltb, ◌⊎◌, [], ◌∷◌, ◌++◌, length, Decides, filter, sym, refl, ap, ◌∙◌, inl, inr, add-one, add-zero, pow-suc, div-one, arith, Contains, ◌↔◌}
 use lib.Arith.{bin_ind}
 use lib.Bits.{bit_and, bit_or, bit_xor}
 use lib.Count.{ones, ones_step, ones-ones}
@@ -8,7 +8,7 @@ use Rattle.std.specs.Int.{w64, bit_not, trailing_zeros}
 use Rattle.std.specs.List.{range_with_len}
 use Rattle.std.proofs.lemmas.Nat.{pow_pos, shr-shr, div_below, div-add-mod', mod_below}
 use Rattle.std.proofs.lemmas.Nat.Bits.{bit_at-suc, bit_at-zero, bit_at_and, bit_at_or, bit_at_xor, bit_at-pow_same, bit_at-pow_other, bit_at-trailing_zeros, bit_at_clear_same, bit_at_above, bit_at_clear_other, same_from_bits}
-use Rattle.std.proofs.lemmas.Bool.{cases_eq, cases_lt, eq-eqb, ne_eqb, both_ways}
+use Rattle.std.proofs.lemmas.Bool.{cases_eq, cases_lt, eq-eqb, ne_eqb}
 use Rattle.std.proofs.lemmas.Bool.Decides.{Decides-like, Decides-eqb, Decides-ltb}
 use Rattle.std.proofs.lemmas.List.Elements.{All-from_get_or, All-contains, All-filter, filter_passes, Contains-push, Contains-append_left}
 use Rattle.std.proofs.lemmas.List.FromFn.{filter_of_map_range_with_len_more, length-range_with_len, get_or-range_with_len}
@@ -114,10 +114,9 @@ count_from m zero a h = let z : m / 2 ^ a ≡ 0 = omega arith in sym (ap ones z 
 count_from m (suc k) a h =
     let half : m / 2 ^ a / 2 ≡ m / 2 ^ (a + 1) = shr-shr m a 1 in
     let rest = count_from m k (a + 1) (rw (← half) (div_below (m / 2 ^ a) 2 (2 ^ k) (omega arith) (omega (arith, h, pow-suc 2 k)))) in
-    let R : List ℕ = filter (λ s. eqb (bit m s) 1) (range_with_len (a + 1) k) in
     elim (cases_member m a) [
-      | inl one ↦ ap (λ b. length (cond b (a ∷ R) R)) (eq-eqb (bit m a) 1 one) ∙ omega (arith, one, rest, ones_step (m / 2 ^ a), ap ones half)
-      | inr z ↦ ap (λ b. length (cond b (a ∷ R) R)) (ne_eqb (bit m a) 1 (λ e. omega (arith, e, z))) ∙ omega (arith, z, rest, ones_step (m / 2 ^ a), ap ones half)
+      | inl one ↦ rw (eq-eqb (bit m a) 1 one) (omega (arith, rest, ones_step (m / 2 ^ a), ap ones half))
+      | inr z ↦ rw (ne_eqb (bit m a) 1 (λ e. omega arith)) (omega (arith, rest, ones_step (m / 2 ^ a), ap ones half))
     ]
 
 pub count_members : (m : ℕ) → m < 2 ^ 64 → length (members m) ≡ ones m
@@ -128,7 +127,7 @@ count_members m h = count_from m 64 0 (omega (arith, div-one m)) ∙ ap ones (di
 pub lowest_trailing : (m : ℕ) → 0 < m → m < 2 ^ 64 → Lowest m (trailing_zeros w64 m)
 lowest_trailing m pos small =
     let low = bit_at-trailing_zeros w64 m pos small in
-    record { member = low.1; least = λ t h. elim (cases_lt t (trailing_zeros w64 m)) [ inl below ↦ absurd (no_member m t (low.2 t below) h) | inr ge ↦ ge ] }
+    record { member = low.1; least = λ t h. grind (arith, low.2 t) }
 
 -- one switch less, by the mask of all others
 pub cleared_members : (m s : ℕ) → m < 2 ^ 64 → s < 64 → Exactly (bit_and m (bit_not w64 (1 * 2 ^ s % 2 ^ 64))) (λ t. InSet m t × (t ≡ s → ⊥))
@@ -155,17 +154,14 @@ chosen_none p = record { each = λ t h. absurd (none_in_zero t h); all = λ t h.
 
 pub chosen_with : (m r : ℕ) (p : ℕ → Bool) (n : ℕ) → n < 64 → Chosen m p n → p n ≡ true → Exactly r (λ t. InSet m t ⊎ ((t ≡ n) × (n < 64))) → Chosen r p (n + 1)
 chosen_with m r p n small before here put = record {
-  each = λ t h. elim (put.each t h) [
-    | inl k ↦ (omega (arith, (before.each t k).0), (before.each t k).1)
-    | inr e ↦ (omega (arith, e.0), ap p e.0 ∙ here)
-  ];
-  all = λ t h. put.all t (elim (cases_eq t n) [ inl e ↦ inr (e, small) | inr ne ↦ inl (before.all t (omega (arith, h.0), h.1)) ]);
+  each = λ t h. grind (arith, put.each t h, before.each t);
+  all = λ t h. grind (arith, put.all t, before.all t);
 }
 
 pub chosen_skip : (m : ℕ) (p : ℕ → Bool) (n : ℕ) → Chosen m p n → p n ≡ false → Chosen m p (n + 1)
 chosen_skip m p n before here = record {
-  each = λ t h. (omega (arith, (before.each t h).0), (before.each t h).1);
-  all = λ t h. before.all t (elim (cases_eq t n) [ inl e ↦ absurd (both_ways (p n) here (ap p (sym e) ∙ h.1)) | inr ne ↦ omega (arith, h.0) ], h.1);
+  each = λ t h. grind (arith, before.each t h);
+  all = λ t h. grind (arith, before.all t);
 }
 
 -- its members, rising
