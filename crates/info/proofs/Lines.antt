@@ -1,5 +1,5 @@
 -- The members of a set as text, and what is told of a long input.
-use Rattle.std.proofs.Common.{◌≡◌, ℕ, ◌+◌, ◌<◌, ◌≤◌, Bool, true, false, cond, eqb, ◌⊎◌, List, [], ◌∷◌, ◌++◌, length, take, Some, None, codes, decimal, filter, Option, sym, refl, ap, ◌∙◌, inl, inr, arith}
+use Rattle.std.proofs.Common.{◌≡◌, ℕ, ◌+◌, ◌<◌, ◌≤◌, eqb, ◌⊎◌, List, [], ◌∷◌, ◌++◌, length, take, Some, None, codes, decimal, filter, Option, sym, refl, ap, ◌∙◌, inl, inr, arith}
 use Rattle.std.specs.List.{range_with_len}
 use Rattle.std.proofs.lemmas.List.{append-nil, append_assoc, take_all}
 use Rattle.std.proofs.lemmas.Bool.{eq-eqb, ne_eqb, cases_lt}
@@ -12,23 +12,18 @@ use Rattle.info.specs.Texts.{movers_text, told_text, info_text}
 
 -- one mover more
 movers_push : (ms : List ℕ) (s : ℕ) → movers_text (ms ++ (s ∷ [])) ≡ movers_text ms ++ (codes " " ++ decimal s)
-movers_push [] s = ap (λ d. codes " " ++ d) (append-nil (decimal s))
-movers_push (m ∷ ms) s =
-    ap (λ t. codes " " ++ (decimal m ++ t)) (movers_push ms s)
-    ∙ ap (λ t. codes " " ++ t) (sym (append_assoc (decimal m) (movers_text ms) (codes " " ++ decimal s)))
+movers_push [] s = simp append-nil
+movers_push (m ∷ ms) s = simp (movers_push ms s, append_assoc)
 
 -- the text of the members below s, and of those below s + 1
 abbrev pub spelt : ℕ → ℕ → List ℕ
 spelt set s = movers_text (filter (λ t. eqb (bit set t) 1) (range_with_len 0 s))
 
-next : (set s : ℕ) (b : Bool) → eqb (bit set s) 1 ≡ b → filter (λ t. eqb (bit set t) 1) (range_with_len 0 (s + 1)) ≡ filter (λ t. eqb (bit set t) 1) (range_with_len 0 s) ++ cond b (s ∷ []) []
-next set s b e = filter_range_more (λ t. eqb (bit set t) 1) s ∙ ap (λ x. filter (λ t. eqb (bit set t) 1) (range_with_len 0 s) ++ cond x (s ∷ []) []) e
-
 pub spelt_with : (set s : ℕ) → InSet set s → spelt set s ++ (codes " " ++ decimal s) ≡ spelt set (s + 1)
-spelt_with set s in' = sym (movers_push (filter (λ t. eqb (bit set t) 1) (range_with_len 0 s)) s) ∙ sym (ap movers_text (next set s true (eq-eqb (bit set s) 1 in')))
+spelt_with set s in' = rw (filter_range_more (λ t. eqb (bit set t) 1) s, eq-eqb (bit set s) 1 in', movers_push)
 
 pub spelt_skip : (set s : ℕ) → (InSet set s → ⊥) → spelt set s ≡ spelt set (s + 1)
-spelt_skip set s out = ap movers_text (sym (append-nil (filter (λ t. eqb (bit set t) 1) (range_with_len 0 s)))) ∙ sym (ap movers_text (next set s false (ne_eqb (bit set s) 1 out)))
+spelt_skip set s out = rw (filter_range_more (λ t. eqb (bit set t) 1) s, ne_eqb (bit set s) 1 out, append-nil)
 
 -- a longer input is told as its start is
 pub start_text : (bs : List ℕ) → info_text (take 1622 bs) ≡ info_text bs
