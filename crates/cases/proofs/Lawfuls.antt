@@ -14,8 +14,9 @@ use Rattle.records.specs.Tables.{HopFits, hop_fits, row_fits, hop_at}
 use Rattle.records.proofs.Rows.{row_inside}
 use Rattle.records.proofs.Words.{part_length, part_byte}
 use Rattle.sheet.specs.Layout.{byte_at, switches, links_from, links, flows, flows_from, ends_from, ingress_of, exit_of, row_from, table_at, old_from, new_from, mask_from, needed_from, needed_of, sheet_end, movers_of}
-use Rattle.sheet.specs.Pieces.{Piece, wrong, first_wrong, piece, counted, switch_count, link_mask, flow_count, flow_ends, same_count, switch_row, needed_mask, section_a, section_b, table_section, needed_section, no_more, few_movers_piece, counts_up_to, sheet_pieces, first_fault}
-use Rattle.sheet.proofs.Firsts.{or_later_none, first_append}
+use Rattle.sheet.specs.Pieces.{Piece, wrong, first_wrong, piece, counted, switch_count, link_mask, flow_count, flow_ends, same_count, switch_row, needed_mask, section_a, section_b, table_section, needed_section, no_more, few_movers_piece, counts_up_to, first_fault}
+use Rattle.sheet.proofs.Firsts.{or_later_none}
+use Rattle.sheet.proofs.Wholes.{in_turn}
 use Rattle.cases.specs.Lawful.{LawfulSheet}
 
 -- ---- pieces
@@ -101,8 +102,7 @@ record Parts (bs : List ℕ) : Type 0 where
 
 module _ (bs : List ℕ) where
   parts_right : (first_fault bs ≡ None) ↔ Parts bs
-  unfolding sheet_pieces
-  parts_right = (grind (arith, first_append, or_later_none), grind (arith, first_append))
+  parts_right = (grind (arith, in_turn bs, or_later_none), grind (arith, in_turn bs))
 
   more_right : (wrong (length bs) (no_more bs) ≡ None) ↔ (length bs ≡ sheet_end bs)
   more_right = (grind (arith, nat_tests), grind (arith, nat_tests))

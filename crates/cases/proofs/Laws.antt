@@ -6,7 +6,7 @@ use Rattle.cases.specs.Lawful.{HopsFit, LawfulSheet}
 use Rattle.sheet.specs.Layout.{switches, flows, old_from, new_from, old_table, new_table, movers_of}
 use Rattle.records.specs.Tables.{hop_at, HopsInside, Mover, rows_differ, movers}
 use Rattle.records.proofs.Rows.{chosen_movers}
-use Rattle.sheet.proofs.Wholes.{table_size}
+use Rattle.records.proofs.Words.{part_length}
 
 module _ (bs : List ℕ) (law : LawfulSheet bs) where
   pub old_inside : old_from bs + 1 + switches bs * flows bs ≤ length bs
@@ -23,7 +23,7 @@ module _ (bs : List ℕ) (law : LawfulSheet bs) where
   unfolding movers
   exact_movers m small listed =
       chosen_movers (switches bs) (flows bs) (old_table bs) (new_table bs)
-      (omega (arith, table_size bs (old_from bs) old_inside))
-      (omega (arith, table_size bs (new_from bs) new_inside))
+      (omega (arith, part_length bs (old_from bs + 1) (switches bs * flows bs) old_inside))
+      (omega (arith, part_length bs (new_from bs + 1) (switches bs * flows bs) new_inside))
       m
       (chosen_from_members m (rows_differ (flows bs) (old_table bs) (new_table bs)) (switches bs) small listed)

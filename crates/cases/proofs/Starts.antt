@@ -1,5 +1,5 @@
 -- What is told of a sheet hangs on its first 1,622 bytes alone.
-use Rattle.std.proofs.Common.{◌≡◌, ℕ, zero, suc, ◌+◌, ◌-◌, ◌*◌, ◌<◌, ◌≤◌, List, ◌++◌, map, length, take, drop, Some, None, Option, sym, refl, ap, ◌∙◌, inl, inr, arith, rules}
+use Rattle.std.proofs.Common.{◌≡◌, ℕ, zero, suc, ◌+◌, ◌-◌, ◌*◌, ◌<◌, ◌≤◌, List, map, length, take, drop, Some, None, Option, sym, refl, ap, ◌∙◌, inl, inr, arith, rules}
 use Rattle.std.specs.List.{range_with_len}
 use Rattle.std.proofs.lemmas.Nat.{mul-le}
 use Rattle.std.proofs.lemmas.List.{get_or-take, length-take, take_all, take-take}
@@ -13,8 +13,9 @@ use Rattle.faults.specs.declared.Fault.{Fault}
 use Rattle.faults.specs.declared.Section.{Section}
 use Rattle.faults.specs.declared.Section.TheVariants.{A, B, C, D, E}
 use Rattle.sheet.specs.Layout.{byte_at, switches, links_from, links, flows, flows_from, ends_from, row_from, old_from, new_from, mask_from, needed_from, sheet_end}
-use Rattle.sheet.specs.Pieces.{Piece, or_later, wrong, first_wrong, switch_count, link_mask, flow_count, flow_ends, same_count, switch_row, needed_mask, no_more, counted, section_a, section_b, table_section, needed_section, sheet_pieces, first_fault}
-use Rattle.sheet.proofs.Firsts.{first_append, or_later_none}
+use Rattle.sheet.specs.Pieces.{Piece, or_later, wrong, first_wrong, switch_count, link_mask, flow_count, flow_ends, same_count, switch_row, needed_mask, no_more, counted, section_a, section_b, table_section, needed_section, first_fault}
+use Rattle.sheet.proofs.Firsts.{or_later_none}
+use Rattle.sheet.proofs.Wholes.{in_turn}
 use Rattle.cases.proofs.Lawfuls.{sheet_right, counts_few}
 
 -- ---- equal faults, piece by piece
@@ -31,9 +32,6 @@ items_same n k f g (suc m) a all =
 
 counted_same : (n k : ℕ) (p q : Piece) (f g : ℕ → Piece) (l m : ℕ) → wrong n p ≡ wrong k q → l ≡ m → (wrong k q ≡ None → (i : ℕ) → i < m → wrong n (f i) ≡ wrong k (g i)) → first_wrong n (counted p f l) ≡ first_wrong k (counted q g m)
 counted_same n k p q f g l m head e all = rw e (or_later_same _ _ _ _ head (λ none. items_same n k f g m 0 (λ i low high. all none i (omega arith))))
-
-joined_same : (n k : ℕ) (ps qs us vs : List Piece) → first_wrong n ps ≡ first_wrong k us → (first_wrong k us ≡ None → first_wrong n qs ≡ first_wrong k vs) → first_wrong n (ps ++ qs) ≡ first_wrong k (us ++ vs)
-joined_same n k ps qs us vs e h = simp first_append (or_later_same _ _ _ _ e h)
 
 -- ---- the first k bytes of a longer sheet
 
@@ -137,8 +135,7 @@ module _ (bs : List ℕ) (k : ℕ) (long : k < length bs) (enough : 1622 ≤ k) 
       more_some none = let low : sheet_end bs < k = omega (arith, few, light, product) in grind (arith, nat_tests)
 
   pub start_same : first_fault cs ≡ first_fault bs
-  unfolding sheet_pieces
-  start_same = search (rules, joined_same, or_later_same, a_same, b_same, c_same, d_same, e_same, more_same, more_some)
+  start_same = rw (in_turn cs, in_turn bs) (search (rules, or_later_same, a_same, b_same, c_same, d_same, e_same, more_same, more_some))
 
 -- what is told of a sheet is told of its first 1,622 bytes
 pub first_bytes : (bs : List ℕ) → first_fault (take 1622 bs) ≡ first_fault bs

@@ -1,14 +1,14 @@
 -- The members of a set as text, and what is told of a long input.
-use Rattle.std.proofs.Common.{◌≡◌, ℕ, ◌+◌, ◌<◌, ◌≤◌, eqb, ◌⊎◌, List, [], ◌∷◌, ◌++◌, length, take, Some, None, codes, decimal, filter, Option, sym, refl, ap, ◌∙◌, inl, inr, arith}
+use Rattle.std.proofs.Common.{◌≡◌, ℕ, ◌+◌, eqb, List, [], ◌∷◌, ◌++◌, take, Some, None, codes, decimal, filter, Option, refl, ap, arith}
 use Rattle.std.specs.List.{range_with_len}
 use Rattle.std.proofs.lemmas.List.{append-nil, append_assoc, take_all}
-use Rattle.std.proofs.lemmas.Bool.{eq-eqb, ne_eqb, cases_lt}
+use Rattle.std.proofs.lemmas.Bool.{eq-eqb, ne_eqb}
 use Rattle.sets.specs.Sets.{bit, InSet}
 use Rattle.sets.proofs.Laws.{filter_range_more}
 use Rattle.faults.specs.declared.Fault.{Fault}
 use Rattle.sheet.specs.Pieces.{first_fault}
 use Rattle.cases.proofs.Starts.{first_bytes, lawful_short}
-use Rattle.info.specs.Texts.{movers_text, told_text, info_text}
+use Rattle.info.specs.Texts.{movers_text, info_text}
 
 -- one mover more
 movers_push : (ms : List ℕ) (s : ℕ) → movers_text (ms ++ (s ∷ [])) ≡ movers_text ms ++ (codes " " ++ decimal s)
@@ -27,9 +27,8 @@ spelt_skip set s out = rw (filter_range_more (λ t. eqb (bit set t) 1) s, ne_eqb
 
 -- a longer input is told as its start is
 pub start_text : (bs : List ℕ) → info_text (take 1622 bs) ≡ info_text bs
-start_text bs = by (first_fault bs) refl (cases_lt 1622 (length bs))
+start_text bs = by (first_fault bs) refl
   where
-    by : (o : Option Fault) → first_fault bs ≡ o → (1622 < length bs) ⊎ (length bs ≤ 1622) → info_text (take 1622 bs) ≡ info_text bs
-    by o e (inr short) = ap info_text (take_all 1622 bs short)
-    by None e (inl long) = absurd (omega (arith, lawful_short bs e, long))
-    by (Some x) e (inl long) = ap (told_text (take 1622 bs)) (first_bytes bs ∙ e) ∙ sym (ap (told_text bs) e)
+    by : (o : Option Fault) → first_fault bs ≡ o → info_text (take 1622 bs) ≡ info_text bs
+    by None e = ap info_text (take_all 1622 bs (omega (arith, lawful_short bs e)))
+    by (Some x) e = rw (first_bytes bs, e)
