@@ -1,5 +1,5 @@
 -- The list of pieces and the sheet's own words say the same.
-use Rattle.std.proofs.Common.{◌≡◌, ℕ, zero, suc, ◌+◌, ◌*◌, ◌<◌, ◌≤◌, ◌↔◌, ◌≢◌, Bool, not, ◌&&◌, eqb, ltb, List, map, length, get_or, None, Decides, All, sym, refl, ap, ◌∙◌, subst, inl, inr, arith}
+use Rattle.std.proofs.Common.{◌≡◌, ℕ, zero, suc, ◌+◌, ◌*◌, ◌<◌, ◌≤◌, ◌↔◌, ◌≢◌, Bool, not, ◌&&◌, eqb, ltb, List, map, length, get_or, None, Decides, All, sym, refl, ap, ◌∙◌, subst, inl, inr, arith, rules}
 use Rattle.std.specs.List.{range_with_len}
 use Rattle.std.proofs.lemmas.Bool.{cases_eq}
 use Rattle.std.proofs.lemmas.Bool.Decides.{nat_tests, Decides-and, Decides-or, Decides-not, Decides-like, Decides-eqb, Decides-by_and}
@@ -151,27 +151,16 @@ sheet_right bs = (
   let c = (table_right bs whole C (old_from bs) (omega (arith, whole))).0 p.in_c in
   let d = (table_right bs whole D (new_from bs) (omega (arith, whole))).0 p.in_d in
   let e = (e_right bs whole).0 p.in_e in
-  record {
-    some_switches = a.0;
-    linked = λ s t hs h. a.1 s hs t h;
-    some_flows = b.0;
-    ends = b.1;
-    counts = (c.0, d.0, e.0);
-    old_hops = λ s j hs hj. c.1 s hs j hj;
-    new_hops = λ s j hs hj. d.1 s hs j hj;
-    needs = λ j t hj h. e.1 j hj t h;
-    ends_there = whole;
-    few_movers = (few_right bs whole).0 p.few;
-  }),
+  let few = (few_right bs whole).0 p.few in
+  search rules),
   (λ l.
   let whole = l.ends_there in
-  (parts_right bs).1 record {
-    in_a = (a_right bs whole).1 (l.some_switches, λ s hs t h. l.linked s t hs h);
-    in_b = (b_right bs whole).1 (l.some_flows, l.ends);
-    in_c = (table_right bs whole C (old_from bs) (omega (arith, whole))).1 (l.counts.0, λ s hs j hj. l.old_hops s j hs hj);
-    in_d = (table_right bs whole D (new_from bs) (omega (arith, whole))).1 (l.counts.1, λ s hs j hj. l.new_hops s j hs hj);
-    in_e = (e_right bs whole).1 (l.counts.2, λ j hj t h. l.needs j t hj h);
-    more = (more_right bs).1 whole;
-    few = (few_right bs whole).1 l.few_movers;
-  }),
+  let a = (a_right bs whole).1 in
+  let b = (b_right bs whole).1 in
+  let c = (table_right bs whole C (old_from bs) (omega (arith, whole))).1 in
+  let d = (table_right bs whole D (new_from bs) (omega (arith, whole))).1 in
+  let e = (e_right bs whole).1 in
+  let more = (more_right bs).1 whole in
+  let few = (few_right bs whole).1 l.few_movers in
+  (parts_right bs).1 (search rules)),
 )
