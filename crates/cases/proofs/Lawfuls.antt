@@ -15,8 +15,7 @@ use Rattle.records.proofs.Rows.{row_inside}
 use Rattle.records.proofs.Words.{part_length, part_byte}
 use Rattle.sheet.specs.Layout.{byte_at, switches, links_from, links, flows, flows_from, ends_from, ingress_of, exit_of, row_from, table_at, old_from, new_from, mask_from, needed_from, needed_of, sheet_end, movers_of}
 use Rattle.sheet.specs.Pieces.{Piece, wrong, first_wrong, piece, counted, switch_count, link_mask, flow_count, flow_ends, same_count, switch_row, needed_mask, section_a, section_b, table_section, needed_section, no_more, few_movers_piece, counts_up_to, first_fault}
-use Rattle.sheet.proofs.Firsts.{or_later_none}
-use Rattle.sheet.proofs.Wholes.{in_turn}
+use Rattle.sheet.proofs.Firsts.{or_later_none, in_turn}
 use Rattle.cases.specs.Lawful.{LawfulSheet}
 
 -- ---- pieces

@@ -14,8 +14,7 @@ use Rattle.faults.specs.declared.Section.{Section}
 use Rattle.faults.specs.declared.Section.TheVariants.{A, B, C, D, E}
 use Rattle.sheet.specs.Layout.{byte_at, switches, links_from, links, flows, flows_from, ends_from, row_from, old_from, new_from, mask_from, needed_from, sheet_end}
 use Rattle.sheet.specs.Pieces.{Piece, or_later, wrong, first_wrong, switch_count, link_mask, flow_count, flow_ends, same_count, switch_row, needed_mask, no_more, counted, section_a, section_b, table_section, needed_section, first_fault}
-use Rattle.sheet.proofs.Firsts.{or_later_none}
-use Rattle.sheet.proofs.Wholes.{in_turn}
+use Rattle.sheet.proofs.Firsts.{or_later_none, in_turn}
 use Rattle.cases.proofs.Lawfuls.{sheet_right, counts_few}
 
 -- ---- equal faults, piece by piece

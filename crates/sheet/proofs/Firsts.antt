@@ -1,8 +1,10 @@
--- The first fault of pieces that are joined, and of a section: a count, and then the records that it counts.
-use Rattle.std.proofs.Common.{◌≡◌, ℕ, suc, ◌+◌, ◌-◌, ◌<◌, ◌≤◌, List, [], ◌∷◌, ◌++◌, map, Some, None, Option, sym, refl, ap, ◌∙◌, arith}
+-- The first fault of pieces that are joined, of the records of a section, and of the whole sheet by its sections.
+use Rattle.std.proofs.Common.{◌≡◌, ℕ, suc, ◌+◌, ◌-◌, ◌<◌, ◌≤◌, List, [], ◌∷◌, ◌++◌, map, length, Some, None, Option, refl, arith}
 use Rattle.std.specs.List.{range_with_len}
 use Rattle.faults.specs.declared.Fault.{Fault}
-use Rattle.sheet.specs.Pieces.{Piece, wrong, or_later, first_wrong}
+use Rattle.faults.specs.declared.Section.TheVariants.{C, D}
+use Rattle.sheet.specs.Layout.{old_from, new_from, needed_from}
+use Rattle.sheet.specs.Pieces.{Piece, wrong, or_later, first_wrong, section_a, section_b, table_section, needed_section, no_more, few_movers_piece, sheet_pieces, first_fault}
 
 or_later_assoc : (a b c : Option Fault) → or_later (or_later a b) c ≡ or_later a (or_later b c)
 or_later_assoc None b c = refl
@@ -14,7 +16,7 @@ or_later_none (Some e) b h = cc
 
 pub first_append : (n : ℕ) (ps qs : List Piece) → first_wrong n (ps ++ qs) ≡ or_later (first_wrong n ps) (first_wrong n qs)
 first_append n [] qs = refl
-first_append n (p ∷ ps) qs = ap (or_later (wrong n p)) (first_append n ps qs) ∙ sym (or_later_assoc (wrong n p) (first_wrong n ps) (first_wrong n qs))
+first_append n (p ∷ ps) qs = simp (first_append n ps qs, or_later_assoc)
 
 -- the first fault of the records from record i of m on
 abbrev pub rest : ℕ → (ℕ → Piece) → ℕ → ℕ → Option Fault
@@ -25,3 +27,8 @@ rest_more n item i m less = let e : m - i ≡ suc (m - (i + 1)) = omega arith in
 
 pub rest_none : (n : ℕ) (item : ℕ → Piece) (i m : ℕ) → m ≤ i → rest n item i m ≡ None
 rest_none n item i m le = let e : m - i ≡ 0 = omega arith in rw e
+
+-- the sections in turn, and then the two tests that close the reading
+pub in_turn : (bs : List ℕ) → let n = length bs in first_fault bs ≡ or_later (first_wrong n (section_a bs)) (or_later (first_wrong n (section_b bs)) (or_later (first_wrong n (table_section bs C (old_from bs))) (or_later (first_wrong n (table_section bs D (new_from bs))) (or_later (first_wrong n (needed_section bs (needed_from bs))) (or_later (wrong n (no_more bs)) (or_later (wrong n (few_movers_piece bs)) None))))))
+unfolding sheet_pieces
+in_turn bs = simp first_append
