@@ -143,23 +143,23 @@ module _ (bs : List ℕ) where
 pub sheet_right : (bs : List ℕ) → (first_fault bs ≡ None) ↔ LawfulSheet bs
 sheet_right bs = (
   (λ h.
-  let p = (parts_right bs).0 h in
-  let whole = (more_right bs).0 p.more in
-  let a = (a_right bs whole).0 p.in_a in
-  let b = (b_right bs whole).0 p.in_b in
-  let c = (table_right bs whole C (old_from bs) (omega (arith, whole))).0 p.in_c in
-  let d = (table_right bs whole D (new_from bs) (omega (arith, whole))).0 p.in_d in
-  let e = (e_right bs whole).0 p.in_e in
-  let few = (few_right bs whole).0 p.few in
-  search rules),
+      let p = (parts_right bs).0 h in
+      let whole = (more_right bs).0 p.more in
+      let a = (a_right bs whole).0 p.in_a in
+      let b = (b_right bs whole).0 p.in_b in
+      let c = (table_right bs whole C (old_from bs) (omega (arith, whole))).0 p.in_c in
+      let d = (table_right bs whole D (new_from bs) (omega (arith, whole))).0 p.in_d in
+      let e = (e_right bs whole).0 p.in_e in
+      let few = (few_right bs whole).0 p.few in
+      search rules),
   (λ l.
-  let whole = l.ends_there in
-  let a = (a_right bs whole).1 in
-  let b = (b_right bs whole).1 in
-  let c = (table_right bs whole C (old_from bs) (omega (arith, whole))).1 in
-  let d = (table_right bs whole D (new_from bs) (omega (arith, whole))).1 in
-  let e = (e_right bs whole).1 in
-  let more = (more_right bs).1 whole in
-  let few = (few_right bs whole).1 l.few_movers in
-  (parts_right bs).1 (search rules)),
+      let whole = l.ends_there in
+      let a = (a_right bs whole).1 in
+      let b = (b_right bs whole).1 in
+      let c = (table_right bs whole C (old_from bs) (omega (arith, whole))).1 in
+      let d = (table_right bs whole D (new_from bs) (omega (arith, whole))).1 in
+      let e = (e_right bs whole).1 in
+      let more = (more_right bs).1 whole in
+      let few = (few_right bs whole).1 l.few_movers in
+      (parts_right bs).1 (search rules)),
 )

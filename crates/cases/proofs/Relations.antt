@@ -113,7 +113,7 @@ pub first_fails : (bs : List ℕ) (e : Fault) → (first_fault bs ≡ Some e) �
 first_fails bs e =
     let f = wrong (length bs) in (
       (λ h.
-      let r = first_at f (sheet_pieces bs) e h in
-      record { before = r.before; piece = r.at; after = r.after; split = r.split; earlier = All-weaker (Clear f) (Passes bs) (λ p. (passes bs p).0) r.before r.earlier; fails = (fails bs r.at e).0 r.fails }),
+          let r = first_at f (sheet_pieces bs) e h in
+          record { before = r.before; piece = r.at; after = r.after; split = r.split; earlier = All-weaker (Clear f) (Passes bs) (λ p. (passes bs p).0) r.before r.earlier; fails = (fails bs r.at e).0 r.fails }),
       (λ s. rw s.split (at_first f s.before s.piece s.after e (All-weaker (Passes bs) (Clear f) (λ p. (passes bs p).1) s.before s.earlier) ((fails bs s.piece e).1 s.fails))),
     )

@@ -193,8 +193,8 @@ chosen_members m p n small only =
 listed : (p : ℕ → Bool) (n s : ℕ) → Contains (filter p (range_with_len 0 n)) s ↔ ((s < n) × (p s ≡ true))
 listed p n s = (
   (λ h.
-  let below = All-from_get_or (λ x. x < n) (range_with_len 0 n) 0 (λ i less. omega (arith, length-range_with_len 0 n, get_or-range_with_len 0 n i 0)) in
-  (All-contains (λ x. x < n) _ s (All-filter p (λ x. x < n) (range_with_len 0 n) below) h, All-contains (λ x. p x ≡ true) _ s (filter_passes p (range_with_len 0 n)) h)),
+      let below = All-from_get_or (λ x. x < n) (range_with_len 0 n) 0 (λ i less. omega (arith, length-range_with_len 0 n, get_or-range_with_len 0 n i 0)) in
+      (All-contains (λ x. x < n) _ s (All-filter p (λ x. x < n) (range_with_len 0 n) below) h, All-contains (λ x. p x ≡ true) _ s (filter_passes p (range_with_len 0 n)) h)),
   (λ h. there n h.0 h.1),
 )
   where
