@@ -105,8 +105,11 @@ below_quotient n m p = no_bits (m / 2 ^ n) (λ t. rw (shr-shr m n t) (not_member
 pub below_number : (n m : ℕ) → MembersBelow n m → m < 2 ^ n
 below_number n m p = small_quotient n m (below_quotient n m p)
 
+pub below_members : (n m : ℕ) → m / 2 ^ n ≡ 0 → MembersBelow n m
+below_members n m q = number_below n m (small_quotient n m q)
+
 pub below_test : (n m : ℕ) → Decides (eqb (m / 2 ^ n) 0) (MembersBelow n m)
-below_test n m = Decides-like (eqb (m / 2 ^ n) 0) (λ q. number_below n m (small_quotient n m q)) (below_quotient n m) (Decides-eqb (m / 2 ^ n) 0)
+below_test n m = Decides-like (eqb (m / 2 ^ n) 0) (below_members n m) (below_quotient n m) (Decides-eqb (m / 2 ^ n) 0)
 
 -- how many members there are is how many bits are set
 count_from : (m k a : ℕ) → m / 2 ^ a < 2 ^ k → length (filter (λ s. eqb (bit m s) 1) (range_with_len a k)) ≡ ones (m / 2 ^ a)
