@@ -1,48 +1,36 @@
 -- What is told of a sheet hangs on its first 1,622 bytes alone.
-use Rattle.std.proofs.Common.{◌≡◌, ℕ, zero, suc, ◌+◌, ◌-◌, ◌*◌, ◌<◌, ◌≤◌, Bool, cond, ◌&&◌, eqb, ltb, leb, List, [], ◌∷◌, ◌++◌, map, length, take, drop, Some, None, Option, sym, refl, ap, ◌∙◌, inl, inr, arith}
+use Rattle.std.proofs.Common.{◌≡◌, ℕ, zero, suc, ◌+◌, ◌-◌, ◌*◌, ◌<◌, ◌≤◌, List, map, length, take, drop, Some, None, Option, sym, refl, ap, ◌∙◌, inl, inr, arith, rules}
 use Rattle.std.specs.List.{range_with_len}
-use Rattle.std.specs.Int.Digits.{number_from_digits}
 use Rattle.std.proofs.lemmas.Nat.{mul-le}
 use Rattle.std.proofs.lemmas.List.{get_or-take, length-take, take_all, take-take}
 use Rattle.std.proofs.lemmas.Slice.{between_is}
-use Rattle.std.proofs.lemmas.Bool.{cases_lt, le-leb, lt-leb}
-use Rattle.records.specs.Masks.{bytes_at, mask_at, in_range, mask_fits, links_fit}
-use Rattle.records.specs.Tables.{row_fits}
+use Rattle.std.proofs.lemmas.Bool.{cases_lt, le-leb}
+use Rattle.std.proofs.lemmas.Bool.Decides.{nat_tests}
+use Rattle.records.specs.Masks.{bytes_at}
 use Rattle.records.proofs.Rows.{row_inside}
-use Rattle.faults.specs.declared.FaultKind.{FaultKind}
-use Rattle.faults.specs.declared.FaultKind.TheVariants.{EndsTooSoon, SwitchCount, LinkMask, FlowCount, FlowEnds, SectionCount, Hop, NeededMask, BytesFollow}
+use Rattle.faults.specs.declared.FaultKind.TheVariants.{SwitchCount, FlowCount}
 use Rattle.faults.specs.declared.Fault.{Fault}
 use Rattle.faults.specs.declared.Section.{Section}
 use Rattle.faults.specs.declared.Section.TheVariants.{A, B, C, D, E}
-use Rattle.faults.specs.Faults.{fault_of}
 use Rattle.sheet.specs.Layout.{byte_at, switches, links_from, links, flows, flows_from, ends_from, row_from, old_from, new_from, mask_from, needed_from, sheet_end}
-use Rattle.sheet.specs.Pieces.{Piece, test_of, or_later, failing, wrong, first_wrong, piece, switch_count, link_mask, flow_count, flow_ends, same_count, switch_row, needed_mask, no_more, few_movers_piece, counted, section_a, section_b, table_section, needed_section, sheet_pieces, first_fault}
-use Rattle.sheet.proofs.Firsts.{first_append, closing, from_b, from_c, from_d, from_e}
-use Rattle.cases.proofs.Lawfuls.{lawful_from_none, section_right, within_right, one_right}
+use Rattle.sheet.specs.Pieces.{Piece, or_later, wrong, first_wrong, switch_count, link_mask, flow_count, flow_ends, same_count, switch_row, needed_mask, no_more, counted, section_a, section_b, table_section, needed_section, first_fault}
+use Rattle.sheet.proofs.Firsts.{or_later_none, in_turn}
+use Rattle.cases.proofs.Lawfuls.{sheet_right, counts_few}
 
 -- ---- equal faults, piece by piece
 
 or_later_same : (a x b y : Option Fault) → a ≡ x → (x ≡ None → b ≡ y) → or_later a b ≡ or_later x y
-or_later_same a None b y e h = ap (λ o. or_later o b) e ∙ h refl
-or_later_same a (Some z) b y e h = ap (λ o. or_later o b) e
+or_later_same a None b y e h = rw e (h refl)
+or_later_same a (Some z) b y e h = rw e
 
 items_same : (n k : ℕ) (f g : ℕ → Piece) (m a : ℕ) → ((i : ℕ) → a ≤ i → i < a + m → wrong n (f i) ≡ wrong k (g i)) → first_wrong n (map f (range_with_len a m)) ≡ first_wrong k (map g (range_with_len a m))
 items_same n k f g zero a all = refl
 items_same n k f g (suc m) a all =
-    or_later_same (wrong n (f a)) (wrong k (g a)) (first_wrong n (map f (range_with_len (a + 1) m))) (first_wrong k (map g (range_with_len (a + 1) m)))
-    (all a (omega arith) (omega arith))
-    (λ _. items_same n k f g m (a + 1) (λ i low high. all i (omega arith) (omega arith)))
+    let rest = items_same n k f g m (a + 1) (λ i low high. all i (omega arith) (omega arith)) in
+    cc (all a (omega arith) (omega arith))
 
 counted_same : (n k : ℕ) (p q : Piece) (f g : ℕ → Piece) (l m : ℕ) → wrong n p ≡ wrong k q → l ≡ m → (wrong k q ≡ None → (i : ℕ) → i < m → wrong n (f i) ≡ wrong k (g i)) → first_wrong n (counted p f l) ≡ first_wrong k (counted q g m)
-counted_same n k p q f g l m head e all =
-    or_later_same (wrong n p) (wrong k q) (first_wrong n (map f (range_with_len 0 l))) (first_wrong k (map g (range_with_len 0 m))) head
-    (λ none. ap (λ j. first_wrong n (map f (range_with_len 0 j))) e ∙ items_same n k f g m 0 (λ i low high. all none i (omega arith)))
-
-joined_same : (n k : ℕ) (ps qs us vs : List Piece) → first_wrong n ps ≡ first_wrong k us → (first_wrong k us ≡ None → first_wrong n qs ≡ first_wrong k vs) → first_wrong n (ps ++ qs) ≡ first_wrong k (us ++ vs)
-joined_same n k ps qs us vs e h = first_append n ps qs ∙ or_later_same (first_wrong n ps) (first_wrong k us) (first_wrong n qs) (first_wrong k vs) e h ∙ sym (first_append k us vs)
-
-piece_same : (c : Section) (p q k m : ℕ) (kind : FaultKind) (x y : Bool) → p ≡ q → k ≡ m → x ≡ y → piece c p k kind x ≡ piece c q m kind y
-piece_same c p q k m kind x y ep ek ex = ap (λ a. piece c a k kind x) ep ∙ ap (λ a. piece c q a kind x) ek ∙ ap (λ a. piece c q m kind a) ex
+counted_same n k p q f g l m head e all = rw e (or_later_same _ _ _ _ head (λ none. items_same n k f g m 0 (λ i low high. all none i (omega arith))))
 
 -- ---- the first k bytes of a longer sheet
 
@@ -60,138 +48,93 @@ module _ (bs : List ℕ) (k : ℕ) (long : k < length bs) (enough : 1622 ≤ k) 
   bytes_same p m h = ap (take m) (sym (between_is bs p k)) ∙ take-take m (k - p) (drop p bs) (omega arith)
 
   -- a piece that lies within the first k bytes
-  inside : (p : Piece) → p.from + p.size ≤ k → wrong (length cs) p ≡ wrong (length bs) p
-  inside p h =
-      let told = Some (fault_of EndsTooSoon p.section (length cs)) in
-      let f = failing p.section p.from p.tests in
-      ap (λ b. cond b f told) (le-leb (p.from + p.size) (length cs) (omega (arith, size)))
-      ∙ sym (ap (λ b. cond b f (Some (fault_of EndsTooSoon p.section (length bs)))) (le-leb (p.from + p.size) (length bs) (omega arith)))
-
   same : (p q : Piece) → p ≡ q → q.from + q.size ≤ k → wrong (length cs) p ≡ wrong (length bs) q
-  same p q e h = ap (wrong (length cs)) e ∙ inside q h
+  same p q e h = rw (e, le-leb (q.from + q.size) (length cs) (omega (arith, size)), le-leb (q.from + q.size) (length bs) (omega arith))
 
   n_same : switches cs ≡ switches bs
   n_same = byte_same 0 (omega arith)
 
   links_same : (s : ℕ) → s < 64 → links cs s ≡ links bs s
-  links_same s h = ap (number_from_digits 256) (bytes_same (links_from s) 8 (omega arith))
+  links_same s h = rw (bytes_same (links_from s) 8 (omega arith))
 
   a_same : first_wrong (length cs) (section_a cs) ≡ first_wrong (length bs) (section_a bs)
   unfolding section_a
   a_same =
       counted_same (length cs) (length bs) (switch_count cs) (switch_count bs) (link_mask cs) (link_mask bs) (switches cs) (switches bs)
-      (same (switch_count cs) (switch_count bs) (ap (λ n. piece A 0 1 SwitchCount (in_range 64 n)) n_same) (omega arith))
+      (same (switch_count cs) (switch_count bs) (cc n_same) (omega arith))
       n_same
       (λ none s h.
-      let few = within_right 64 (switches bs) (one_right (length bs) A 0 1 SwitchCount (in_range 64 (switches bs)) none).1 in
-      same (link_mask cs s) (link_mask bs s) (ap (λ n. piece A (links_from s) 8 LinkMask (links_fit n s (links cs s))) n_same ∙ ap (λ m. piece A (links_from s) 8 LinkMask (links_fit (switches bs) s m)) (links_same s (omega (arith, few.1, h)))) (omega (arith, few.1, h)))
+      let few = counts_few (length bs) bs A SwitchCount 64 0 none in
+      same (link_mask cs s) (link_mask bs s) (cc (n_same, links_same s (omega (arith, few, h)))) (omega (arith, few, h)))
 
-  module _ (few : switches bs ≤ 64) where
+  module _ (a : first_wrong (length bs) (section_a bs) ≡ None) where
+    few : switches bs ≤ 64
+    unfolding section_a
+    few = counts_few (length bs) bs A SwitchCount 64 0 (or_later_none _ _ a).0
+
     f_same : flows cs ≡ flows bs
-    f_same = ap (λ n. byte_at cs (links_from n)) n_same ∙ byte_same (flows_from bs) (omega (arith, few))
-
-    ends_same : (j : ℕ) → ends_from cs j ≡ ends_from bs j
-    ends_same j = ap (λ n. links_from n + 1 + 2 * j) n_same
+    f_same = rw n_same (byte_same (flows_from bs) (omega (arith, few)))
 
     b_same : first_wrong (length cs) (section_b cs) ≡ first_wrong (length bs) (section_b bs)
     unfolding section_b
     b_same =
         counted_same (length cs) (length bs) (flow_count cs) (flow_count bs) (λ j. flow_ends cs (ends_from cs j)) (λ j. flow_ends bs (ends_from bs j)) (flows cs) (flows bs)
-        (same (flow_count cs) (flow_count bs) (piece_same B (flows_from cs) (flows_from bs) 1 1 FlowCount (in_range 8 (flows cs)) (in_range 8 (flows bs)) (ap links_from n_same) refl (ap (in_range 8) f_same)) (omega (arith, few)))
+        (same (flow_count cs) (flow_count bs) (cc (n_same, f_same)) (omega (arith, few)))
         f_same
         (λ none j h.
-        let light = within_right 8 (flows bs) (one_right (length bs) B (flows_from bs) 1 FlowCount (in_range 8 (flows bs)) none).1 in
+        let light = counts_few (length bs) bs B FlowCount 8 (flows_from bs) none in
         let p = ends_from bs j in
-        let low : p + 2 ≤ k = omega (arith, few, light.1, h) in
-        let e : flow_ends cs p ≡ flow_ends bs p = piece_same B p p 2 2 FlowEnds (ltb (byte_at cs p) (switches cs) && ltb (byte_at cs (p + 1)) (switches cs)) (ltb (byte_at bs p) (switches bs) && ltb (byte_at bs (p + 1)) (switches bs)) refl refl (ap (λ n. ltb (byte_at cs p) n && ltb (byte_at cs (p + 1)) n) n_same ∙ ap (λ x. ltb x (switches bs) && ltb (byte_at cs (p + 1)) (switches bs)) (byte_same p (omega arith)) ∙ ap (λ x. ltb (byte_at bs p) (switches bs) && ltb x (switches bs)) (byte_same (p + 1) (omega arith))) in
-        same (flow_ends cs (ends_from cs j)) (flow_ends bs p) (ap (flow_ends cs) (ends_same j) ∙ e) low)
+        let low : p + 2 ≤ k = omega (arith, few, light, h) in
+        same (flow_ends cs (ends_from cs j)) (flow_ends bs p) (cc (n_same, byte_same p (omega arith), byte_same (p + 1) (omega arith))) low)
 
-    module _ (light : flows bs ≤ 8) where
+    module _ (b : first_wrong (length bs) (section_b bs) ≡ None) where
+      light : flows bs ≤ 8
+      unfolding section_b
+      light = counts_few (length bs) bs B FlowCount 8 (flows_from bs) (or_later_none _ _ b).0
+
       product : switches bs * flows bs ≤ 512
       product = mul-le (switches bs) (flows bs) 64 8 few light
-
-      count_same : (c : Section) (p q x y : ℕ) → p ≡ q → x ≡ y → q + 1 ≤ k → wrong (length cs) (same_count cs c p x) ≡ wrong (length bs) (same_count bs c q y)
-      count_same c p q x y ep ex low =
-          same (same_count cs c p x) (same_count bs c q y)
-          (ap (λ a. same_count cs c a x) ep ∙ ap (λ a. same_count cs c q a) ex ∙ ap (λ b. piece c q 1 SectionCount (eqb b y)) (byte_same q (omega arith))) low
 
       table_same : (c : Section) (p q : ℕ) → p ≡ q → q + 513 ≤ k → first_wrong (length cs) (table_section cs c p) ≡ first_wrong (length bs) (table_section bs c q)
       unfolding table_section
       table_same c p q ep low =
           counted_same (length cs) (length bs) (same_count cs c p (switches cs)) (same_count bs c q (switches bs)) (λ s. switch_row cs c (row_from cs p s) s) (λ s. switch_row bs c (row_from bs q s) s) (switches cs) (switches bs)
-          (count_same c p q (switches cs) (switches bs) ep n_same (omega arith))
+          (same (same_count cs c p (switches cs)) (same_count bs c q (switches bs)) (cc (n_same, byte_same q (omega arith))) (omega arith))
           n_same
           (λ none s h.
           let at = row_from bs q s in
           let there : at + flows bs ≤ k = omega (arith, row_inside (switches bs) (flows bs) s (switches bs * flows bs) h (omega arith), product, low) in
-          let place : row_from cs p s ≡ at = ap (λ a. a + 1 + s * flows cs) ep ∙ ap (λ f. q + 1 + s * f) f_same in
-          let e : switch_row cs c at s ≡ switch_row bs c at s = ap (λ f. piece c at f Hop (row_fits (links cs s) (bytes_at cs at f))) f_same ∙ ap (λ m. piece c at (flows bs) Hop (row_fits m (bytes_at cs at (flows bs)))) (links_same s (omega (arith, few, h))) ∙ ap (λ l. piece c at (flows bs) Hop (row_fits (links bs s) l)) (bytes_same at (flows bs) there) in
-          same (switch_row cs c (row_from cs p s) s) (switch_row bs c at s) (ap (λ a. switch_row cs c a s) place ∙ e) there)
+          same (switch_row cs c (row_from cs p s) s) (switch_row bs c at s) (cc (f_same, links_same s (omega (arith, few, h)), bytes_same at (flows bs) there)) there)
 
-      old_same : old_from cs ≡ old_from bs
-      old_same = ap (ends_from cs) f_same ∙ ends_same (flows bs)
+      c_same : first_wrong (length cs) (table_section cs C (old_from cs)) ≡ first_wrong (length bs) (table_section bs C (old_from bs))
+      c_same = table_same C (old_from cs) (old_from bs) (cc (n_same, f_same)) (omega (arith, few, light))
 
-      after_same : (p q : ℕ) → p ≡ q → row_from cs p (switches cs) ≡ row_from bs q (switches bs)
-      after_same p q ep = ap (λ a. a + 1 + switches cs * flows cs) ep ∙ ap (λ n. q + 1 + n * flows cs) n_same ∙ ap (λ f. q + 1 + switches bs * f) f_same
-
-      new_same : new_from cs ≡ new_from bs
-      new_same = after_same (old_from cs) (old_from bs) old_same
-
-      needed_from_same : needed_from cs ≡ needed_from bs
-      needed_from_same = after_same (new_from cs) (new_from bs) new_same
+      d_same : first_wrong (length cs) (table_section cs D (new_from cs)) ≡ first_wrong (length bs) (table_section bs D (new_from bs))
+      d_same = table_same D (new_from cs) (new_from bs) (cc (n_same, f_same)) (omega (arith, few, light, product))
 
       e_same : first_wrong (length cs) (needed_section cs (needed_from cs)) ≡ first_wrong (length bs) (needed_section bs (needed_from bs))
       unfolding needed_section
       e_same =
           counted_same (length cs) (length bs) (same_count cs E (needed_from cs) (flows cs)) (same_count bs E (needed_from bs) (flows bs)) (λ j. needed_mask cs (mask_from (needed_from cs) j)) (λ j. needed_mask bs (mask_from (needed_from bs) j)) (flows cs) (flows bs)
-          (count_same E (needed_from cs) (needed_from bs) (flows cs) (flows bs) needed_from_same f_same (omega (arith, few, light, product)))
+          (same (same_count cs E (needed_from cs) (flows cs)) (same_count bs E (needed_from bs) (flows bs)) (cc (n_same, f_same, byte_same (needed_from bs) (omega (arith, few, light, product)))) (omega (arith, few, light, product)))
           f_same
           (λ none j h.
           let at = mask_from (needed_from bs) j in
           let there : at + 8 ≤ k = omega (arith, few, light, product, h) in
-          let e : needed_mask cs at ≡ needed_mask bs at = ap (λ n. piece E at 8 NeededMask (mask_fits n (mask_at cs at))) n_same ∙ ap (λ l. piece E at 8 NeededMask (mask_fits (switches bs) (number_from_digits 256 l))) (bytes_same at 8 there) in
-          same (needed_mask cs (mask_from (needed_from cs) j)) (needed_mask bs at) (ap (λ a. needed_mask cs (mask_from a j)) needed_from_same ∙ e) there)
+          same (needed_mask cs (mask_from (needed_from cs) j)) (needed_mask bs at) (cc (n_same, f_same, bytes_same at 8 there)) there)
 
       -- bytes follow, in the beginning too
-      more_told : (ds : List ℕ) (p : ℕ) → p < length ds → wrong (length ds) (piece E p 0 BytesFollow (leb (length ds) p)) ≡ Some (fault_of BytesFollow E p)
-      more_told ds p h =
-          let f = failing E p (test_of BytesFollow (leb (length ds) p)) in
-          ap (λ b. cond b f (Some (fault_of EndsTooSoon E (length ds)))) (le-leb (p + 0) (length ds) (omega arith))
-          ∙ ap (λ b. cond b None (Some (fault_of BytesFollow E p))) (lt-leb (length ds) p h)
-
-      end_same : sheet_end cs ≡ sheet_end bs
-      end_same = ap (λ a. mask_from a (flows cs)) needed_from_same ∙ ap (mask_from (needed_from bs)) f_same
-
       more_same : wrong (length cs) (no_more cs) ≡ wrong (length bs) (no_more bs)
       more_same =
           let low : sheet_end bs < k = omega (arith, few, light, product) in
-          more_told cs (sheet_end cs) (omega (arith, end_same, size, low)) ∙ ap (λ p. Some (fault_of BytesFollow E p)) end_same ∙ sym (more_told bs (sheet_end bs) (omega (arith, low)))
+          let end : sheet_end cs ≡ sheet_end bs = cc (n_same, f_same) in
+          grind (arith, nat_tests, size)
 
       more_some : wrong (length bs) (no_more bs) ≡ None → ⊥
-      more_some none =
-          let s : Some (fault_of BytesFollow E (sheet_end bs)) ≡ None = sym (more_told bs (sheet_end bs) (omega (arith, few, light, product))) ∙ none in
-          cc
-
-  few_from_a : first_wrong (length bs) (section_a bs) ≡ None → switches bs ≤ 64
-  unfolding section_a
-  few_from_a none = (within_right 64 (switches bs) (one_right (length bs) A 0 1 SwitchCount (in_range 64 (switches bs)) (section_right (length bs) (switch_count bs) (link_mask bs) (switches bs) none).first).1).1
-
-  light_from_b : first_wrong (length bs) (section_b bs) ≡ None → flows bs ≤ 8
-  unfolding section_b
-  light_from_b none = (within_right 8 (flows bs) (one_right (length bs) B (flows_from bs) 1 FlowCount (in_range 8 (flows bs)) (section_right (length bs) (flow_count bs) (λ j. flow_ends bs (ends_from bs j)) (flows bs) none).first).1).1
+      more_some none = let low : sheet_end bs < k = omega (arith, few, light, product) in grind (arith, nat_tests)
 
   pub start_same : first_fault cs ≡ first_fault bs
-  unfolding sheet_pieces
-  start_same =
-      joined_same (length cs) (length bs) (section_a cs) (from_b cs) (section_a bs) (from_b bs) a_same (λ a.
-      let few = few_from_a a in
-      joined_same (length cs) (length bs) (section_b cs) (from_c cs) (section_b bs) (from_c bs) (b_same few) (λ b.
-      let light = light_from_b b in
-      let product = mul-le (switches bs) (flows bs) 64 8 few light in
-      joined_same (length cs) (length bs) (table_section cs C (old_from cs)) (from_d cs) (table_section bs C (old_from bs)) (from_d bs) (table_same few light C (old_from cs) (old_from bs) (old_same few light) (omega (arith, few, light))) (λ _.
-      joined_same (length cs) (length bs) (table_section cs D (new_from cs)) (from_e cs) (table_section bs D (new_from bs)) (from_e bs) (table_same few light D (new_from cs) (new_from bs) (new_same few light) (omega (arith, few, light, product))) (λ _.
-      joined_same (length cs) (length bs) (needed_section cs (needed_from cs)) (closing cs) (needed_section bs (needed_from bs)) (closing bs) (e_same few light) (λ _.
-      or_later_same (wrong (length cs) (no_more cs)) (wrong (length bs) (no_more bs)) (first_wrong (length cs) (few_movers_piece cs ∷ [])) (first_wrong (length bs) (few_movers_piece bs ∷ [])) (more_same few light) (λ none. absurd (more_some few light none)))))))
+  start_same = rw (in_turn cs, in_turn bs) (search (rules, or_later_same, a_same, b_same, c_same, d_same, e_same, more_same, more_some))
 
 -- what is told of a sheet is told of its first 1,622 bytes
 pub first_bytes : (bs : List ℕ) → first_fault (take 1622 bs) ≡ first_fault bs
@@ -200,5 +143,5 @@ first_bytes bs = elim (cases_lt 1622 (length bs)) [ inl long ↦ start_same bs 1
 -- no lawful sheet has more than 1,621
 pub lawful_short : (bs : List ℕ) → first_fault bs ≡ None → length bs ≤ 1621
 lawful_short bs none =
-    let l = lawful_from_none bs none in
+    let l = (sheet_right bs).0 none in
     omega (arith, l.ends_there, l.some_switches.1, l.some_flows.1, mul-le (switches bs) (flows bs) 64 8 l.some_switches.1 l.some_flows.1)

@@ -1,6 +1,5 @@
 -- The laws of sets in terms of their members. Layers above cite these, and not the bits.
-use Rattle.std.proofs.Common.{◌≡◌, ℕ, zero, suc, ◌+◌, ◌-◌, ◌*◌, ◌/◌, ◌%◌, ◌^◌, ◌<◌, ◌≤◌, Bool, true, false, cond, eqb, ltb, ◌≢◌, ◌⊎◌, List, [], ◌∷◌, ◌++◌, length, Decides, filter, sym, refl, ap, ◌∙◌, subst, inl, inr, add-zero, pow-suc, zero-add, div-one, arith}
-use native.Mathlib.Nat.{div-eq_of_lt}
+use Rattle.std.proofs.Common.{◌≡◌, ℕ, zero, suc, ◌+◌, ◌-◌, ◌*◌, ◌/◌, ◌%◌, ◌^◌, ◌<◌, ◌≤◌, Bool, true, false, cond, eqb, ltb, ◌⊎◌, [], ◌∷◌, ◌++◌, length, Decides, filter, sym, refl, ap, ◌∙◌, inl, inr, add-one, add-zero, pow-suc, div-one, arith, Contains, ◌↔◌}
 use lib.Arith.{bin_ind}
 use lib.Bits.{bit_and, bit_or, bit_xor}
 use lib.Count.{ones, ones_step, ones-ones}
@@ -8,25 +7,27 @@ use Rattle.std.specs.Bool.{one_answer}
 use Rattle.std.specs.Int.{w64, bit_not, trailing_zeros}
 use Rattle.std.specs.List.{range_with_len}
 use Rattle.std.proofs.lemmas.Nat.{pow_pos, shr-shr, div_below, div-add-mod', mod_below}
-use Rattle.std.proofs.lemmas.Nat.Bits.{bit_at-suc, bit_at-zero, bit_at_and, bit_at_or, bit_at_xor, bit_at-pow_same, bit_at-pow_other, bit_at-trailing_zeros, bit_at_clear_same, bit_at_clear_other, same_from_bits}
-use Rattle.std.proofs.lemmas.Bool.{cases_eq, cases_lt, eq-eqb, ne_eqb, eqb-true, ltb-true, lt-ltb, both_ways}
-use Rattle.std.proofs.lemmas.List.Elements.{filter-append}
-use Rattle.std.proofs.lemmas.List.{append-nil}
+use Rattle.std.proofs.lemmas.Nat.Bits.{bit_at-suc, bit_at-zero, bit_at_and, bit_at_or, bit_at_xor, bit_at-pow_same, bit_at-pow_other, bit_at-trailing_zeros, bit_at_clear_same, bit_at_above, bit_at_clear_other, same_from_bits}
+use Rattle.std.proofs.lemmas.Bool.{cases_eq, cases_lt, eq-eqb, ne_eqb}
+use Rattle.std.proofs.lemmas.Bool.Decides.{Decides-like, Decides-eqb, Decides-ltb}
+use Rattle.std.proofs.lemmas.List.Elements.{All-from_get_or, All-contains, All-filter, filter_passes, Contains-push, Contains-append_left}
+use Rattle.std.proofs.lemmas.List.FromFn.{filter_of_map_range_with_len_more, length-range_with_len, get_or-range_with_len}
+use Rattle.std.proofs.lemmas.List.{append-nil, map-id}
 use Rattle.sets.specs.Sets.{bit, InSet, Exactly, PartOf, Disjoint, SameMembers, MembersBelow, Empty, Lowest, members}
 
 -- s is a member of m, or its bit is 0
 pub cases_member : (m s : ℕ) → InSet m s ⊎ (bit m s ≡ 0)
-cases_member m s = elim (cases_eq (bit m s) 1) [ inl h ↦ inl h | inr ne ↦ inr (omega arith) ]
+cases_member m s = grind arith
 
 pub not_member : (m s : ℕ) → (InSet m s → ⊥) → bit m s ≡ 0
-not_member m s out = elim (cases_member m s) [ inl h ↦ absurd (out h) | inr z ↦ z ]
+not_member m s out = grind arith
 
 pub no_member : (m s : ℕ) → bit m s ≡ 0 → InSet m s → ⊥
 no_member m s z h = omega arith
 
 -- sets with the same members are equal
 pub same_members : (a b : ℕ) → PartOf a b → PartOf b a → a ≡ b
-same_members a b there back = same_from_bits a b (λ t. elim (cases_member a t) [ inl h ↦ h ∙ sym (there t h) | inr z ↦ z ∙ sym (not_member b t (λ k. no_member a t z (back t k))) ])
+same_members a b there back = same_from_bits a b (λ t. grind (arith, there t, back t))
 
 pub exactly_one : {P : ℕ → Type 0} (a b : ℕ) → Exactly a P → Exactly b P → a ≡ b
 exactly_one a b ea eb = same_members a b (λ s h. eb.all s (ea.each s h)) (λ s h. ea.all s (eb.each s h))
@@ -50,88 +51,61 @@ some_member = bin_ind (λ m. (m ≡ 0) ⊎ ((s : ℕ) × InSet m s)) (inl refl) 
 
 -- union
 pub or_members : (a b : ℕ) → Exactly (bit_or a b) (λ t. InSet a t ⊎ InSet b t)
-or_members a b = record {
-  each = λ t h. elim (cases_member a t) [ inl k ↦ inl k | inr z ↦ inr (omega (arith, bit_at_or a b t, h)) ];
-  all = λ t h. elim h [ inl k ↦ omega (arith, bit_at_or a b t, k) | inr k ↦ omega (arith, bit_at_or a b t, k) ];
-}
+or_members a b = record { each = λ t h. grind (arith, bit_at_or a b t); all = λ t h. grind (arith, bit_at_or a b t) }
 
 -- intersection
 pub and_members : (a b : ℕ) → Exactly (bit_and a b) (λ t. InSet a t × InSet b t)
-and_members a b = record {
-  each = λ t h. (omega (arith, bit_at_and a b t, h), omega (arith, bit_at_and a b t, h));
-  all = λ t h. omega (arith, bit_at_and a b t, h.0, h.1);
-}
-
--- the set of one switch
-pub one_member : (s t : ℕ) → InSet (2 ^ s) t → t ≡ s
-one_member s t h = elim (cases_eq s t) [ inl e ↦ sym e | inr ne ↦ absurd (no_member (2 ^ s) t (bit_at-pow_other s t (λ e. ne (sym e))) h) ]
+and_members a b = record { each = λ t h. grind (arith, bit_at_and a b t); all = λ t h. grind (arith, bit_at_and a b t) }
 
 -- one switch more
 pub with_members : (m s : ℕ) → Exactly (bit_or m (2 ^ s)) (λ t. InSet m t ⊎ (t ≡ s))
 with_members m s = record {
-  each = λ t h. elim ((or_members m (2 ^ s)).each t h) [ inl k ↦ inl k | inr k ↦ inr (one_member s t k) ];
-  all = λ t h. (or_members m (2 ^ s)).all t (elim h [ inl k ↦ inl k | inr e ↦ inr (ap (bit (2 ^ s)) e ∙ bit_at-pow_same s) ]);
+  each = λ t h. grind (arith, bit_at_or m (2 ^ s) t, bit_at-pow_other);
+  all = λ t h. elim h [ inl k ↦ omega (arith, bit_at_or m (2 ^ s) t) | inr e ↦ rw e (omega (arith, bit_at_or m (2 ^ s) s, bit_at-pow_same s)) ];
 }
 
 -- one switch less
-bit_without : (m s t : ℕ) → s ≢ t → bit (bit_xor (bit_or m (2 ^ s)) (2 ^ s)) t ≡ bit m t
-bit_without m s t ne = omega (arith, bit_at_xor (bit_or m (2 ^ s)) (2 ^ s) t, bit_at_or m (2 ^ s) t, bit_at-pow_other s t (λ e. ne (sym e)))
-
-bit_gone : (m s : ℕ) → bit (bit_xor (bit_or m (2 ^ s)) (2 ^ s)) s ≡ 0
-bit_gone m s = omega (arith, bit_at_xor (bit_or m (2 ^ s)) (2 ^ s) s, bit_at_or m (2 ^ s) s, bit_at-pow_same s)
-
 pub without_members : (m s : ℕ) → Exactly (bit_xor (bit_or m (2 ^ s)) (2 ^ s)) (λ t. InSet m t × (t ≡ s → ⊥))
 without_members m s = record {
-  each = λ t h. elim (cases_eq s t) [
-    | inl e ↦ absurd (no_member (bit_xor (bit_or m (2 ^ s)) (2 ^ s)) t (ap (bit (bit_xor (bit_or m (2 ^ s)) (2 ^ s))) (sym e) ∙ bit_gone m s) h)
-    | inr ne ↦ (sym (bit_without m s t ne) ∙ h, (λ e. ne (sym e)))
+  each = λ t h. elim (cases_eq t s) [
+    | inl e ↦ absurd (omega (arith, bit_at_xor (bit_or m (2 ^ s)) (2 ^ s) s, bit_at_or m (2 ^ s) s, bit_at-pow_same s, rw e at h))
+    | inr ne ↦ (omega (arith, bit_at_xor (bit_or m (2 ^ s)) (2 ^ s) t, bit_at_or m (2 ^ s) t, bit_at-pow_other s t ne), ne)
   ];
-  all = λ t h. bit_without m s t (λ e. h.1 (sym e)) ∙ h.0;
+  all = λ t h. omega (arith, bit_at_xor (bit_or m (2 ^ s)) (2 ^ s) t, bit_at_or m (2 ^ s) t, bit_at-pow_other s t h.1, h.0);
 }
 
 -- part of, apart, the same, by the tests of the code
 pub part_test : (a b : ℕ) → Decides (eqb (bit_and a b) a) (PartOf a b)
-part_test a b = (
-  (λ e t h. ((and_members a b).each t (ap (λ m. bit m t) (eqb-true (bit_and a b) a e) ∙ h)).1),
-  (λ p. eq-eqb (bit_and a b) a (same_members (bit_and a b) a (λ t h. ((and_members a b).each t h).0) (λ t h. (and_members a b).all t (h, p t h)))),
-)
+part_test a b =
+    let both = and_members a b in
+    Decides-like (eqb (bit_and a b) a) (λ e t h. (both.each t (rw e h)).1) (λ p. same_members (bit_and a b) a (λ t h. (both.each t h).0) (λ t h. both.all t (h, p t h))) (Decides-eqb (bit_and a b) a)
 
 pub apart_test : (a b : ℕ) → Decides (eqb (bit_and a b) 0) (Disjoint a b)
-apart_test a b = (
-  (λ e t h k. omega (arith, bit_at_and a b t, ap (λ m. bit m t) (eqb-true (bit_and a b) 0 e), bit_at-zero t, h, k)),
-  (λ p. eq-eqb (bit_and a b) 0 (no_bits (bit_and a b) (λ t. elim (cases_member a t) [ inl h ↦ omega (arith, bit_at_and a b t, not_member b t (p t h)) | inr z ↦ omega (arith, bit_at_and a b t, z) ]))),
-)
+apart_test a b =
+    let both = and_members a b in
+    Decides-like (eqb (bit_and a b) 0) (λ e t h k. none_in_zero t (rw e at (both.all t (h, k)))) (λ p. empty_zero (bit_and a b) (λ t h. p t (both.each t h).0 (both.each t h).1)) (Decides-eqb (bit_and a b) 0)
 
 pub same_test : (a b : ℕ) → Decides (eqb a b) (SameMembers a b)
-same_test a b = (
-  (λ e. let q = eqb-true a b e in record { there = λ t h. ap (λ m. bit m t) (sym q) ∙ h; back = λ t h. ap (λ m. bit m t) q ∙ h }),
-  (λ p. eq-eqb a b (same_members a b p.there p.back)),
-)
+same_test a b = Decides-like (eqb a b) (λ e. rw e record { there = λ t h. h; back = λ t h. h }) (λ p. same_members a b p.there p.back) (Decides-eqb a b)
 
 -- a set below n is a number below 2 ^ n
-bit_shr : (m s t : ℕ) → bit (m / 2 ^ s) t ≡ bit m (s + t)
-bit_shr m s t = ap (λ n. n % 2) (shr-shr m s t)
+pub number_below : (n m : ℕ) → m < 2 ^ n → MembersBelow n m
+number_below n m h s in' = elim (cases_lt s n) [ inl l ↦ l | inr ge ↦ absurd (no_member m s (bit_at_above m n s h ge) in') ]
+
+small_quotient : (n m : ℕ) → m / 2 ^ n ≡ 0 → m < 2 ^ n
+small_quotient n m q = omega (arith, div-add-mod' m (2 ^ n), ap (λ k. k * 2 ^ n) q, mod_below m (2 ^ n) (pow_pos n))
 
 pub below_quotient : (n m : ℕ) → MembersBelow n m → m / 2 ^ n ≡ 0
-below_quotient n m p = no_bits (m / 2 ^ n) (λ t. bit_shr m n t ∙ not_member m (n + t) (λ h. omega (arith, p (n + t) h)))
-
-pub below_members : (n m : ℕ) → m / 2 ^ n ≡ 0 → MembersBelow n m
-below_members n m z s h =
-    elim (cases_lt s n) [
-      | inl l ↦ l
-      | inr ge ↦
-          let at : n + (s - n) ≡ s = omega arith in
-          absurd (no_member m s (ap (bit m) (sym at) ∙ sym (bit_shr m n (s - n)) ∙ ap (λ k. bit k (s - n)) z ∙ bit_at-zero (s - n)) h)
-    ]
-
-pub below_test : (n m : ℕ) → Decides (eqb (m / 2 ^ n) 0) (MembersBelow n m)
-below_test n m = ((λ e. below_members n m (eqb-true (m / 2 ^ n) 0 e)), (λ p. eq-eqb (m / 2 ^ n) 0 (below_quotient n m p)))
+below_quotient n m p = no_bits (m / 2 ^ n) (λ t. rw (shr-shr m n t) (not_member m (n + t) (λ h. omega (arith, p (n + t) h))))
 
 pub below_number : (n m : ℕ) → MembersBelow n m → m < 2 ^ n
-below_number n m p = let q = below_quotient n m p in omega (arith, div-add-mod' m (2 ^ n), ap (λ k. k * 2 ^ n) q, mod_below m (2 ^ n) (pow_pos n))
+below_number n m p = small_quotient n m (below_quotient n m p)
 
-pub number_below : (n m : ℕ) → m < 2 ^ n → MembersBelow n m
-number_below n m h = below_members n m (div-eq_of_lt h)
+pub below_members : (n m : ℕ) → m / 2 ^ n ≡ 0 → MembersBelow n m
+below_members n m q = number_below n m (small_quotient n m q)
+
+pub below_test : (n m : ℕ) → Decides (eqb (m / 2 ^ n) 0) (MembersBelow n m)
+below_test n m = Decides-like (eqb (m / 2 ^ n) 0) (below_members n m) (below_quotient n m) (Decides-eqb (m / 2 ^ n) 0)
 
 -- how many members there are is how many bits are set
 count_from : (m k a : ℕ) → m / 2 ^ a < 2 ^ k → length (filter (λ s. eqb (bit m s) 1) (range_with_len a k)) ≡ ones (m / 2 ^ a)
@@ -139,10 +113,9 @@ count_from m zero a h = let z : m / 2 ^ a ≡ 0 = omega arith in sym (ap ones z 
 count_from m (suc k) a h =
     let half : m / 2 ^ a / 2 ≡ m / 2 ^ (a + 1) = shr-shr m a 1 in
     let rest = count_from m k (a + 1) (rw (← half) (div_below (m / 2 ^ a) 2 (2 ^ k) (omega arith) (omega (arith, h, pow-suc 2 k)))) in
-    let R : List ℕ = filter (λ s. eqb (bit m s) 1) (range_with_len (a + 1) k) in
     elim (cases_member m a) [
-      | inl one ↦ ap (λ b. length (cond b (a ∷ R) R)) (eq-eqb (bit m a) 1 one) ∙ omega (arith, one, rest, ones_step (m / 2 ^ a), ap ones half)
-      | inr z ↦ ap (λ b. length (cond b (a ∷ R) R)) (ne_eqb (bit m a) 1 (λ e. omega (arith, e, z))) ∙ omega (arith, z, rest, ones_step (m / 2 ^ a), ap ones half)
+      | inl one ↦ rw (eq-eqb (bit m a) 1 one) (omega (arith, rest, ones_step (m / 2 ^ a), ap ones half))
+      | inr z ↦ rw (ne_eqb (bit m a) 1 (λ e. omega arith)) (omega (arith, rest, ones_step (m / 2 ^ a), ap ones half))
     ]
 
 pub count_members : (m : ℕ) → m < 2 ^ 64 → length (members m) ≡ ones m
@@ -153,7 +126,7 @@ count_members m h = count_from m 64 0 (omega (arith, div-one m)) ∙ ap ones (di
 pub lowest_trailing : (m : ℕ) → 0 < m → m < 2 ^ 64 → Lowest m (trailing_zeros w64 m)
 lowest_trailing m pos small =
     let low = bit_at-trailing_zeros w64 m pos small in
-    record { member = low.1; least = λ t h. elim (cases_lt t (trailing_zeros w64 m)) [ inl below ↦ absurd (no_member m t (low.2 t below) h) | inr ge ↦ ge ] }
+    record { member = low.1; least = λ t h. grind (arith, low.2 t) }
 
 -- one switch less, by the mask of all others
 pub cleared_members : (m s : ℕ) → m < 2 ^ 64 → s < 64 → Exactly (bit_and m (bit_not w64 (1 * 2 ^ s % 2 ^ 64))) (λ t. InSet m t × (t ≡ s → ⊥))
@@ -166,103 +139,65 @@ cleared_members m s small within =
 
 -- tests of one question
 pub below_ltb : (n m : ℕ) → Decides (ltb m (2 ^ n)) (MembersBelow n m)
-below_ltb n m = ((λ e. number_below n m (ltb-true m (2 ^ n) e)), (λ p. lt-ltb m (2 ^ n) (below_number n m p)))
+below_ltb n m = Decides-like (ltb m (2 ^ n)) (number_below n m) (below_number n m) (Decides-ltb m (2 ^ n))
 
 pub member_eqb : (m s : ℕ) → Decides (eqb (bit m s) 1) (InSet m s)
-member_eqb m s = ((λ e. eqb-true (bit m s) 1 e), (λ h. eq-eqb (bit m s) 1 h))
+member_eqb m s = Decides-eqb (bit m s) 1
 
 -- a set built by a loop that puts in each switch below n of which a test says yes
 abbrev pub Chosen : ℕ → (ℕ → Bool) → ℕ → Type 0
 Chosen m p n = Exactly m (λ t. (t < n) × (p t ≡ true))
 
-pub chosen_none : (p : ℕ → Bool) → Chosen 0 p 0
-chosen_none p = record { each = λ t h. absurd (omega (arith, h, bit_at-zero t)); all = λ t h. absurd (omega (arith, h.0)) }
-
-pub chosen_with : (m r : ℕ) (p : ℕ → Bool) (n : ℕ) → n < 64 → Chosen m p n → p n ≡ true → Exactly r (λ t. InSet m t ⊎ ((t ≡ n) × (n < 64))) → Chosen r p (n + 1)
-chosen_with m r p n small before here put = record {
-  each = λ t h. elim (put.each t h) [
-    | inl k ↦ (omega (arith, (before.each t k).0), (before.each t k).1)
-    | inr e ↦ (omega (arith, e.0), ap p e.0 ∙ here)
-  ];
-  all = λ t h. put.all t (elim (cases_eq t n) [ inl e ↦ inr (e, small) | inr ne ↦ inl (before.all t (omega (arith, h.0), h.1)) ]);
-}
-
-pub chosen_skip : (m : ℕ) (p : ℕ → Bool) (n : ℕ) → Chosen m p n → p n ≡ false → Chosen m p (n + 1)
-chosen_skip m p n before here = record {
-  each = λ t h. (omega (arith, (before.each t h).0), (before.each t h).1);
-  all = λ t h. before.all t (elim (cases_eq t n) [ inl e ↦ absurd (both_ways (p n) here (ap p (sym e) ∙ h.1)) | inr ne ↦ omega (arith, h.0) ], h.1);
-}
-
 -- its members, rising
-pub filter_same : (p q : ℕ → Bool) (k a : ℕ) → ((t : ℕ) → a ≤ t → t < a + k → p t ≡ q t) → filter p (range_with_len a k) ≡ filter q (range_with_len a k)
-filter_same p q zero a same = refl
-filter_same p q (suc k) a same =
-    let rest = filter_same p q k (a + 1) (λ t low high. same t (omega arith) (omega arith)) in
-    ap (λ xs. cond (p a) (a ∷ xs) xs) rest ∙ ap (λ b. cond b (a ∷ filter q (range_with_len (a + 1) k)) (filter q (range_with_len (a + 1) k))) (same a (omega arith) (omega arith))
-
-pub filter_none : (p : ℕ → Bool) (k a : ℕ) → ((t : ℕ) → a ≤ t → t < a + k → p t ≡ false) → filter p (range_with_len a k) ≡ []
-filter_none p zero a none = refl
-filter_none p (suc k) a none =
-    ap (λ b. cond b (a ∷ filter p (range_with_len (a + 1) k)) (filter p (range_with_len (a + 1) k))) (none a (omega arith) (omega arith))
-    ∙ filter_none p k (a + 1) (λ t low high. none t (omega arith) (omega arith))
-
-pub range_split : (a i k : ℕ) → range_with_len a (i + k) ≡ range_with_len a i ++ range_with_len (a + i) k
-range_split a zero k = ap (range_with_len a) (zero-add k) ∙ ap (λ b. range_with_len b k) (sym (add-zero a))
-range_split a (suc i) k =
-    let e : suc i + k ≡ suc (i + k) = omega arith in
-    let s : a + 1 + i ≡ a + suc i = omega arith in
-    ap (range_with_len a) e ∙ ap (λ xs. a ∷ xs) (range_split (a + 1) i k ∙ ap (λ b. range_with_len (a + 1) i ++ range_with_len b k) s)
-
--- one number more
 pub filter_range_more : (p : ℕ → Bool) (s : ℕ) → filter p (range_with_len 0 (s + 1)) ≡ filter p (range_with_len 0 s) ++ cond (p s) (s ∷ []) []
-filter_range_more p s = ap (filter p) (range_split 0 s 1) ∙ filter-append p (range_with_len 0 s) (range_with_len (0 + s) 1) ∙ ap (λ t. filter p (range_with_len 0 s) ++ cond (p t) (t ∷ []) []) (zero-add s)
+filter_range_more p s = simp map-id at (filter_of_map_range_with_len_more p (λ x. x) 0 s s (omega arith))
+
+filter_next : (p : ℕ → Bool) (s : ℕ) → filter p (range_with_len 0 (suc s)) ≡ filter p (range_with_len 0 s) ++ cond (p s) (s ∷ []) []
+filter_next p s = rw add-one at (filter_range_more p s)
+
+filter_same : (p q : ℕ → Bool) (n : ℕ) → ((t : ℕ) → t < n → p t ≡ q t) → filter p (range_with_len 0 n) ≡ filter q (range_with_len 0 n)
+filter_same p q zero same = refl
+filter_same p q (suc n) same = let rest = filter_same p q n (λ t h. same t (omega arith)) in rw (filter_next p n, filter_next q n, rest, same n (omega arith))
+
+-- numbers that do not pass add nothing
+pub filter_past : (p : ℕ → Bool) (n d : ℕ) → ((t : ℕ) → n ≤ t → p t ≡ false) → filter p (range_with_len 0 (n + d)) ≡ filter p (range_with_len 0 n)
+filter_past p n zero none = rw add-zero
+filter_past p n (suc d) none = let next : n + suc d ≡ suc (n + d) = omega arith in rw (next, filter_next p (n + d), none (n + d) (omega arith), append-nil) (filter_past p n d none)
 
 pub chosen_members : (m : ℕ) (p : ℕ → Bool) (n : ℕ) → n ≤ 64 → Chosen m p n → members m ≡ filter p (range_with_len 0 n)
 unfolding members
 chosen_members m p n small only =
-    let e : n + (64 - n) ≡ 64 = omega arith in
+    let e : 64 ≡ n + (64 - n) = omega arith in
     let has : ℕ → Bool = λ s. eqb (bit m s) 1 in
-    ap (λ k. filter has (range_with_len 0 k)) (sym e) ∙ ap (filter has) (range_split 0 n (64 - n))
-    ∙ filter-append has (range_with_len 0 n) (range_with_len (0 + n) (64 - n))
-    ∙ ap (λ xs. filter has (range_with_len 0 n) ++ xs) (filter_none has (64 - n) (0 + n) (λ t low high. ne_eqb (bit m t) 1 (λ h. omega (arith, (only.each t h).0))))
-    ∙ append-nil (filter has (range_with_len 0 n))
-    ∙ filter_same has p n 0 (λ t low high. one_answer (has t) (p t) (member_eqb m t) ((λ e. only.all t (omega arith, e)), (λ h. (only.each t h).1)))
+    ap (λ k. filter has (range_with_len 0 k)) e
+    ∙ filter_past has n (64 - n) (λ t ge. ne_eqb (bit m t) 1 (λ h. omega (arith, (only.each t h).0)))
+    ∙ filter_same has p n (λ t less. one_answer (has t) (p t) (member_eqb m t) ((λ e. only.all t (less, e)), (λ h. (only.each t h).1)))
 
 -- and back: the list of the members says which they are
-abbrev Listed : ℕ → List ℕ → Type 0
-Listed s [] = ⊥
-Listed s (x ∷ xs) = (s ≡ x) ⊎ Listed s xs
-
-filter_head : (p : ℕ → Bool) (a : ℕ) (xs : List ℕ) (s : ℕ) → (b : Bool) → p a ≡ b → Listed s (cond b (a ∷ xs) xs) → ((s ≡ a) × (p a ≡ true)) ⊎ Listed s xs
-filter_head p a xs s true e (inl h) = inl (h, e)
-filter_head p a xs s true e (inr h) = inr h
-filter_head p a xs s false e h = inr h
-
-from_filter : (p : ℕ → Bool) (k a s : ℕ) → Listed s (filter p (range_with_len a k)) → (s < a + k) × (p s ≡ true)
-from_filter p zero a s h = absurd h
-from_filter p (suc k) a s h =
-    elim (filter_head p a (filter p (range_with_len (a + 1) k)) s (p a) refl h) [
-      | inl e ↦ (omega (arith, e.0), ap p e.0 ∙ e.1)
-      | inr r ↦ let q = from_filter p k (a + 1) s r in (omega (arith, q.0), q.1)
-    ]
-
-to_filter : (p : ℕ → Bool) (k a s : ℕ) → a ≤ s → s < a + k → p s ≡ true → Listed s (filter p (range_with_len a k))
-to_filter p zero a s low high e = absurd (omega arith)
-to_filter p (suc k) a s low high e =
-    let R : List ℕ = filter p (range_with_len (a + 1) k) in
-    elim (cases_eq s a) [
-      | inl same ↦ subst (λ b. Listed s (cond b (a ∷ R) R)) (sym (sym (ap p same) ∙ e)) (inl same)
-      | inr ne ↦ later (p a) R (to_filter p k (a + 1) s (omega arith) (omega arith) e)
-    ]
+listed : (p : ℕ → Bool) (n s : ℕ) → Contains (filter p (range_with_len 0 n)) s ↔ ((s < n) × (p s ≡ true))
+listed p n s = (
+  (λ h.
+      let below = All-from_get_or (λ x. x < n) (range_with_len 0 n) 0 (λ i less. omega (arith, length-range_with_len 0 n, get_or-range_with_len 0 n i 0)) in
+      (All-contains (λ x. x < n) _ s (All-filter p (λ x. x < n) (range_with_len 0 n) below) h, All-contains (λ x. p x ≡ true) _ s (filter_passes p (range_with_len 0 n)) h)),
+  (λ h. there n h.0 h.1),
+)
   where
-    later : (b : Bool) (xs : List ℕ) → Listed s xs → Listed s (cond b (a ∷ xs) xs)
-    later true xs h = inr h
-    later false xs h = h
+    there : (n : ℕ) → s < n → p s ≡ true → Contains (filter p (range_with_len 0 n)) s
+    there zero less e = absurd (omega arith)
+    there (suc n) less e =
+        rw (filter_next p n) (elim (cases_eq s n) [
+          | inl same ↦ rw (← same, e) (Contains-push (filter p (range_with_len 0 s)) s)
+          | inr ne ↦ Contains-append_left (filter p (range_with_len 0 n)) _ s (there n (omega arith) e)
+        ])
+
+members_listed : (m s : ℕ) → m < 2 ^ 64 → Contains (members m) s ↔ InSet m s
+unfolding members
+members_listed m s small =
+    let h = listed (λ t. eqb (bit m t) 1) 64 s in
+    ((λ k. (member_eqb m s).0 (h.0 k).1), (λ k. h.1 (number_below 64 m small s k, (member_eqb m s).1 k)))
 
 pub chosen_from_members : (m : ℕ) (p : ℕ → Bool) (n : ℕ) → m < 2 ^ 64 → members m ≡ filter p (range_with_len 0 n) → Chosen m p n
-unfolding members
-chosen_from_members m p n small e =
-    let has : ℕ → Bool = λ s. eqb (bit m s) 1 in record {
-      each = λ t h. let q = from_filter p n 0 t (subst (Listed t) e (to_filter has 64 0 t (omega arith) (omega (arith, number_below 64 m small t h)) ((member_eqb m t).1 h))) in (omega (arith, q.0), q.1);
-      all = λ t h. (member_eqb m t).0 (from_filter has 64 0 t (subst (Listed t) (sym e) (to_filter p n 0 t (omega arith) (omega (arith, h.0)) h.1))).1;
-    }
+chosen_from_members m p n small e = record {
+  each = λ t h. (listed p n t).0 (rw e at ((members_listed m t small).1 h));
+  all = λ t h. (members_listed m t small).0 (rw e ((listed p n t).1 h));
+}

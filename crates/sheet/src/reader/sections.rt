@@ -16,6 +16,7 @@ const MOST_FLOWS: u8 = 8;
 
 impl<'a, S: Sheet> Reader<'a, S> {
     // Section A: the number of switches, and the links of each.
+    #[tactic(auto, using(crate::proofs::Firsts::rest_more, crate::proofs::Firsts::rest_none), unfolding(crate::specs::Pieces::section_a))]
     pub(super) fn section_a(&mut self) -> Result<Switches<S>, Fault>
         requires { self.old.at ≡ 0 }
         ensures tells { TellsFirst S.bytes (section_a S.bytes) result }
@@ -33,6 +34,7 @@ impl<'a, S: Sheet> Reader<'a, S> {
     }
 
     // Section B: the number of flows, and the ends of each.
+    #[tactic(auto, using(crate::proofs::Firsts::rest_more, crate::proofs::Firsts::rest_none), unfolding(crate::specs::Pieces::section_b))]
     pub(super) fn section_b(&mut self, n: &Switches<S>) -> Result<Flows<S>, Fault>
         requires { self.old.at ≡ flows_from S.bytes }
         ensures tells { TellsFirst S.bytes (section_b S.bytes) result }
@@ -49,6 +51,7 @@ impl<'a, S: Sheet> Reader<'a, S> {
     }
 
     // Section C or D: the row of each switch. Gives the rows.
+    #[tactic(auto, using(crate::proofs::Firsts::rest_more, crate::proofs::Firsts::rest_none), unfolding(crate::specs::Pieces::table_section))]
     pub(super) fn table(
         &mut self,
         section: Section,
@@ -70,6 +73,7 @@ impl<'a, S: Sheet> Reader<'a, S> {
     }
 
     // Section E: the needed switches of each flow.
+    #[tactic(auto, using(crate::proofs::Firsts::rest_more, crate::proofs::Firsts::rest_none), unfolding(crate::specs::Pieces::needed_section))]
     pub(super) fn needed(&mut self, n: &Switches<S>, f: &Flows<S>) -> Result<(), Fault>
         ensures tells { TellsFirst S.bytes (needed_section S.bytes self.old.at) result }
         ensures goes { OnOk result (self.new.at ≡ mask_from self.old.at (flows S.bytes)) }

@@ -29,6 +29,7 @@ pub fn read_numbers(sheet: &[u8]) -> Result<Numbers, Fault>
 }
 
 // The same, where the sheet has a name.
+#[tactic(auto, using(crate::proofs::Firsts::in_turn, std::proofs::lemmas::Bool::Decides::nat_tests))]
 fn read_all<S: Sheet>(sheet: &[u8]) -> Result<Numbers, Fault>
     requires { sheet.now ≡ S.bytes }
     ensures tells { told_by result ≡ first_fault S.bytes }

@@ -2,9 +2,9 @@ use Rattle.std.proofs.Common.{refl}
 use Rattle.sets.specs.Sets.{members}
 use Rattle.sheet.specs.Pieces.{section_a, section_b, table_section, needed_section, sheet_pieces}
 use Rattle.records.specs.Tables.{movers}
-use Rattle.cases.proofs.Lawfuls.{lawful_from_none}
+use Rattle.cases.proofs.Lawfuls.{sheet_right}
 use Rattle.cases.proofs.Case.smallest.Goals as goal
 
 pub invariant_of-result : goal.invariant_of-result
 unfolding members movers section_a section_b table_section needed_section sheet_pieces
-invariant_of-result c = record { lawful = lawful_from_none _ refl; numbered = refl; flowing = refl; listed = refl }
+invariant_of-result c = record { lawful = (sheet_right _).0 refl; numbered = refl; flowing = refl; listed = refl }

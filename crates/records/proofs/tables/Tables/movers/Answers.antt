@@ -1,22 +1,8 @@
-use Rattle.std.proofs.Common.{◌≡◌, ℕ, ◌+◌, sym, ◌∙◌, subst, arith}
-use Rattle.sets.proofs.Laws.{Chosen, chosen_none, chosen_with, chosen_skip, chosen_members}
+use Rattle.std.proofs.Common.{◌≡◌, subst, arith}
+use Rattle.sets.proofs.Laws.{Chosen, chosen_members}
 use Rattle.records.specs.Tables.{rows_differ, movers}
 use Rattle.records.proofs.Rows.{chosen_movers}
 use Rattle.records.proofs.tables.Tables.movers.Goals as goal
-use Rattle.records.proofs.tables.Tables.movers.Goals.{then-moves, else-moves}
-
-pub loop-s-init : goal.loop-s-init
-loop-s-init c = let t = c.args.self.now in chosen_none (rows_differ t.flows t.old.now t.new.now)
-
-pub loop-s-preserved : goal.loop-s-preserved
-loop-s-preserved c =
-    let t = c.args.self.now in
-    let p = rows_differ t.flows t.old.now t.new.now in
-    let P = λ (m : ℕ). Chosen m p (c.loop-s.s + 1) in
-    elim c.if-moves.branch [
-      | then-moves w ↦ subst P (sym w.set-is) (chosen_with c.loop-s.set w.with-set.result p c.loop-s.s (omega (arith, t.whole.few)) c.loop-s.invariant (sym c.moves.ensures ∙ w.if-moves.true) w.with-set.ensures)
-      | else-moves w ↦ subst P (sym w.set-is) (chosen_skip c.loop-s.set p c.loop-s.s c.loop-s.invariant (sym c.moves.ensures ∙ w.if-moves.false))
-    ]
 
 pub returns : goal.returns
 unfolding movers
