@@ -15,7 +15,7 @@ use Rattle.records.proofs.Rows.{row_inside}
 use Rattle.records.proofs.Words.{part_length, part_byte}
 use Rattle.sheet.specs.Layout.{byte_at, switches, links_from, links, flows, flows_from, ends_from, ingress_of, exit_of, row_from, table_at, old_from, new_from, mask_from, needed_from, needed_of, sheet_end, movers_of}
 use Rattle.sheet.specs.Pieces.{Piece, wrong, first_wrong, piece, counted, switch_count, link_mask, flow_count, flow_ends, same_count, switch_row, needed_mask, section_a, section_b, table_section, needed_section, no_more, few_movers_piece, counts_up_to, first_fault}
-use Rattle.sheet.proofs.Firsts.{or_later_none, in_turn}
+use Rattle.sheet.proofs.Firsts.{option_or_none, in_turn}
 use Rattle.cases.specs.Lawful.{LawfulSheet}
 
 -- ---- pieces
@@ -35,7 +35,7 @@ items_right n item zero a each = ((λ _ i low high. absurd (omega arith)), (λ _
 items_right {Q} n item (suc m) a each =
     let here = each a (omega arith) (omega arith) in
     let rest = items_right n item m (a + 1) (λ i low high. each i (omega arith) (omega arith)) in (
-      (λ h i low high. let b = or_later_none _ _ h in elim (cases_eq a i) [ inl e ↦ subst Q e (here.0 b.0) | inr ne ↦ rest.0 b.1 i (omega arith) (omega arith) ]),
+      (λ h i low high. let b = option_or_none _ _ h in elim (cases_eq a i) [ inl e ↦ subst Q e (here.0 b.0) | inr ne ↦ rest.0 b.1 i (omega arith) (omega arith) ]),
       (λ all. let there = rest.1 (λ i low high. all i (omega arith) (omega arith)) in rw (here.1 (all a (omega arith) (omega arith))) there),
     )
 
@@ -43,7 +43,7 @@ items_right {Q} n item (suc m) a each =
 section_right : {P : Type 0} {Q : ℕ → Type 0} (n : ℕ) (head : Piece) (item : ℕ → Piece) (m : ℕ) → (wrong n head ≡ None) ↔ P → ((i : ℕ) → i < m → (wrong n (item i) ≡ None) ↔ Q i) → (first_wrong n (counted head item m) ≡ None) ↔ (P × ((i : ℕ) → i < m → Q i))
 section_right n head item m first each =
     let rest = items_right n item m 0 (λ i _ high. each i (omega arith)) in (
-      (λ h. let b = or_later_none _ _ h in (first.0 b.0, λ i less. rest.0 b.1 i (omega arith) (omega arith))),
+      (λ h. let b = option_or_none _ _ h in (first.0 b.0, λ i less. rest.0 b.1 i (omega arith) (omega arith))),
       (λ r. let there = rest.1 (λ i _ high. r.1 i (omega arith)) in rw (first.1 r.0) there),
     )
 
@@ -101,7 +101,7 @@ record Parts (bs : List ℕ) : Type 0 where
 
 module _ (bs : List ℕ) where
   parts_right : (first_fault bs ≡ None) ↔ Parts bs
-  parts_right = (grind (arith, in_turn bs, or_later_none), grind (arith, in_turn bs))
+  parts_right = (grind (arith, in_turn bs, option_or_none), grind (arith, in_turn bs))
 
   more_right : (wrong (length bs) (no_more bs) ≡ None) ↔ (length bs ≡ sheet_end bs)
   more_right = (grind (arith, nat_tests), grind (arith, nat_tests))

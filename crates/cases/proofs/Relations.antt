@@ -1,5 +1,6 @@
 -- The first fault of the list of pieces is the fault of the first piece that fails.
 use Rattle.std.proofs.Common.{◌≡◌, ℕ, ◌+◌, ◌<◌, ◌≤◌, ◌↔◌, true, false, cond, ◌⊎◌, List, [], ◌∷◌, ◌++◌, length, All, Some, None, Option, sym, refl, ap, ◌∙◌, inl, inr, arith}
+use Rattle.std.specs.Option.{option_or}
 use Rattle.std.proofs.lemmas.Bool.{le-leb, lt-leb, cases_Bool, cases_lt}
 use Rattle.std.proofs.lemmas.Bool.Decides.{nat_tests}
 use Rattle.std.proofs.lemmas.List.Elements.{All-nil, All-cons, All-head, All-tail, All-weaker}
@@ -8,8 +9,8 @@ use Rattle.faults.specs.declared.Fault.{Fault}
 use Rattle.faults.specs.declared.Section.{Section}
 use Rattle.faults.specs.Faults.{fault_of}
 use Rattle.cases.specs.Lawful.{Passes, CutShort, TestFails, FirstFails}
-use Rattle.sheet.specs.Pieces.{Test, Piece, or_later, failing, wrong, sheet_pieces, first_fault}
-use Rattle.sheet.proofs.Firsts.{or_later_none}
+use Rattle.sheet.specs.Pieces.{Test, Piece, failing, wrong, sheet_pieces, first_fault}
+use Rattle.sheet.proofs.Firsts.{option_or_none}
 
 -- ---- the first fault of a list, by the fault of each element
 
@@ -28,13 +29,13 @@ record FirstAt {X : Type 0} (f : X → Option Fault) (xs : List X) (e : Fault) :
 module _ {X : Type 0} (f : X → Option Fault) where
   abbrev first_of : List X → Option Fault
   first_of [] = None
-  first_of (x ∷ xs) = or_later (f x) (first_of xs)
+  first_of (x ∷ xs) = option_or (f x) (first_of xs)
 
   all_clear : (xs : List X) → (first_of xs ≡ None) ↔ All (Clear f) xs
   all_clear [] = ((λ _. All-nil (Clear f)), (λ _. refl))
   all_clear (x ∷ xs) =
       let rest = all_clear xs in (
-        (λ h. let b = or_later_none (f x) (first_of xs) h in All-cons (Clear f) x xs b.0 (rest.0 b.1)),
+        (λ h. let b = option_or_none (f x) (first_of xs) h in All-cons (Clear f) x xs b.0 (rest.0 b.1)),
         (λ h. rw (All-head (Clear f) x xs h) (rest.1 (All-tail (Clear f) x xs h))),
       )
 
@@ -42,7 +43,7 @@ module _ {X : Type 0} (f : X → Option Fault) where
   first_at [] e h = cc
   first_at (x ∷ xs) e h = by (f x) refl h (first_at xs e)
     where
-      by : (o : Option Fault) → f x ≡ o → or_later o (first_of xs) ≡ Some e → (first_of xs ≡ Some e → FirstAt f xs e) → FirstAt f (x ∷ xs) e
+      by : (o : Option Fault) → f x ≡ o → option_or o (first_of xs) ≡ Some e → (first_of xs ≡ Some e → FirstAt f xs e) → FirstAt f (x ∷ xs) e
       by None here h later =
           let r = later h in
           record { before = x ∷ r.before; at = r.at; after = r.after; split = cc r.split; earlier = All-cons (Clear f) x r.before here r.earlier; fails = r.fails }

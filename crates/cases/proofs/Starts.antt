@@ -1,5 +1,6 @@
 -- What is told of a sheet hangs on its first 1,622 bytes alone.
 use Rattle.std.proofs.Common.{◌≡◌, ℕ, zero, suc, ◌+◌, ◌-◌, ◌*◌, ◌<◌, ◌≤◌, List, map, length, take, drop, Some, None, Option, sym, refl, ap, ◌∙◌, inl, inr, arith, rules}
+use Rattle.std.specs.Option.{option_or}
 use Rattle.std.specs.List.{range_with_len}
 use Rattle.std.proofs.lemmas.Nat.{mul-le}
 use Rattle.std.proofs.lemmas.List.{get_or-take, length-take, take_all, take-take}
@@ -13,15 +14,15 @@ use Rattle.faults.specs.declared.Fault.{Fault}
 use Rattle.faults.specs.declared.Section.{Section}
 use Rattle.faults.specs.declared.Section.TheVariants.{A, B, C, D, E}
 use Rattle.sheet.specs.Layout.{byte_at, switches, links_from, links, flows, flows_from, ends_from, row_from, old_from, new_from, mask_from, needed_from, sheet_end}
-use Rattle.sheet.specs.Pieces.{Piece, or_later, wrong, first_wrong, switch_count, link_mask, flow_count, flow_ends, same_count, switch_row, needed_mask, no_more, counted, section_a, section_b, table_section, needed_section, first_fault}
-use Rattle.sheet.proofs.Firsts.{or_later_none, in_turn}
+use Rattle.sheet.specs.Pieces.{Piece, wrong, first_wrong, switch_count, link_mask, flow_count, flow_ends, same_count, switch_row, needed_mask, no_more, counted, section_a, section_b, table_section, needed_section, first_fault}
+use Rattle.sheet.proofs.Firsts.{option_or_none, in_turn}
 use Rattle.cases.proofs.Lawfuls.{sheet_right, counts_few}
 
 -- ---- equal faults, piece by piece
 
-or_later_same : (a x b y : Option Fault) → a ≡ x → (x ≡ None → b ≡ y) → or_later a b ≡ or_later x y
-or_later_same a None b y e h = rw e (h refl)
-or_later_same a (Some z) b y e h = rw e
+option_or_same : (a x b y : Option Fault) → a ≡ x → (x ≡ None → b ≡ y) → option_or a b ≡ option_or x y
+option_or_same a None b y e h = rw e (h refl)
+option_or_same a (Some z) b y e h = rw e
 
 items_same : (n k : ℕ) (f g : ℕ → Piece) (m a : ℕ) → ((i : ℕ) → a ≤ i → i < a + m → wrong n (f i) ≡ wrong k (g i)) → first_wrong n (map f (range_with_len a m)) ≡ first_wrong k (map g (range_with_len a m))
 items_same n k f g zero a all = refl
@@ -30,7 +31,7 @@ items_same n k f g (suc m) a all =
     cc (all a (omega arith) (omega arith))
 
 counted_same : (n k : ℕ) (p q : Piece) (f g : ℕ → Piece) (l m : ℕ) → wrong n p ≡ wrong k q → l ≡ m → (wrong k q ≡ None → (i : ℕ) → i < m → wrong n (f i) ≡ wrong k (g i)) → first_wrong n (counted p f l) ≡ first_wrong k (counted q g m)
-counted_same n k p q f g l m head e all = rw e (or_later_same _ _ _ _ head (λ none. items_same n k f g m 0 (λ i low high. all none i (omega arith))))
+counted_same n k p q f g l m head e all = rw e (option_or_same _ _ _ _ head (λ none. items_same n k f g m 0 (λ i low high. all none i (omega arith))))
 
 -- ---- the first k bytes of a longer sheet
 
@@ -70,7 +71,7 @@ module _ (bs : List ℕ) (k : ℕ) (long : k < length bs) (enough : 1622 ≤ k) 
   module _ (a : first_wrong (length bs) (section_a bs) ≡ None) where
     few : switches bs ≤ 64
     unfolding section_a
-    few = counts_few (length bs) bs A SwitchCount 64 0 (or_later_none _ _ a).0
+    few = counts_few (length bs) bs A SwitchCount 64 0 (option_or_none _ _ a).0
 
     f_same : flows cs ≡ flows bs
     f_same = rw n_same (byte_same (flows_from bs) (omega (arith, few)))
@@ -90,7 +91,7 @@ module _ (bs : List ℕ) (k : ℕ) (long : k < length bs) (enough : 1622 ≤ k) 
     module _ (b : first_wrong (length bs) (section_b bs) ≡ None) where
       light : flows bs ≤ 8
       unfolding section_b
-      light = counts_few (length bs) bs B FlowCount 8 (flows_from bs) (or_later_none _ _ b).0
+      light = counts_few (length bs) bs B FlowCount 8 (flows_from bs) (option_or_none _ _ b).0
 
       product : switches bs * flows bs ≤ 512
       product = mul-le (switches bs) (flows bs) 64 8 few light
@@ -134,7 +135,7 @@ module _ (bs : List ℕ) (k : ℕ) (long : k < length bs) (enough : 1622 ≤ k) 
       more_some none = let low : sheet_end bs < k = omega (arith, few, light, product) in grind (arith, nat_tests)
 
   pub start_same : first_fault cs ≡ first_fault bs
-  start_same = rw (in_turn cs, in_turn bs) (search (rules, or_later_same, a_same, b_same, c_same, d_same, e_same, more_same, more_some))
+  start_same = rw (in_turn cs, in_turn bs) (search (rules, option_or_same, a_same, b_same, c_same, d_same, e_same, more_same, more_some))
 
 -- what is told of a sheet is told of its first 1,622 bytes
 pub first_bytes : (bs : List ℕ) → first_fault (take 1622 bs) ≡ first_fault bs

@@ -1,5 +1,6 @@
 -- The sheet as a list of its pieces in reading order, each with its place, its size and its tests. A piece is a record of the sheet (a count, a mask, a pair or a row) or one of the two tests that close the reading. The first piece that fails gives the fault.
 use Rattle.std.specs.Prelude.{ℕ, ◌+◌, Bool, if◌then◌else◌, ◌&&◌, List, [], ◌∷◌, ◌++◌, map, length, Some, None, Option, ◌==◌, nat_le, nat_lt}
+use Rattle.std.specs.Option.{option_or}
 use Rattle.std.specs.List.{range_with_len}
 use Rattle.records.specs.Masks.{bytes_at, mask_at, in_range, mask_fits, links_fit}
 use Rattle.records.specs.Tables.{row_size, row_fits}
@@ -23,11 +24,6 @@ pub record Piece : Type 0 where
   pub section : Section
   pub tests : List Test
 
--- the first of two faults, where there is one
-abbrev pub or_later : Option Fault → Option Fault → Option Fault
-or_later None g = g
-or_later (Some e) g = Some e
-
 -- the fault of the first test that fails
 abbrev pub failing : Section → ℕ → List Test → Option Fault
 failing s p [] = None
@@ -40,7 +36,7 @@ wrong n p = if nat_le (p.from + p.size) n then failing p.section p.from p.tests 
 -- the fault of the first piece that fails
 abbrev pub first_wrong : ℕ → List Piece → Option Fault
 first_wrong n [] = None
-first_wrong n (p ∷ ps) = or_later (wrong n p) (first_wrong n ps)
+first_wrong n (p ∷ ps) = option_or (wrong n p) (first_wrong n ps)
 
 -- one test
 abbrev pub test_of : FaultKind → Bool → List Test
