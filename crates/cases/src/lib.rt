@@ -198,7 +198,7 @@ impl<'a> Case<'a> {
     }
 }
 
-// Reads a sheet into the place, or tells its first fault and leaves the place as it was.
+// Reads a sheet into the place, or tells its first fault and leaves the place as it was. A place, and not a `Result` with the case: so there is a lawful case at every moment, and callers keep the one that they had.
 pub fn read<'a>(sheet: &'a [u8], case: &mut Case<'a>) -> Result<(), Fault>
     ensures tells { told_by result ≡ first_fault sheet.now }
     ensures lawful { IsOk result ↔ LawfulSheet sheet.now }

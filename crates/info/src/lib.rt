@@ -19,9 +19,9 @@ pub fn refused(heap: Global, fault: &Fault) -> Result<String, AllocError>
 
 // A set of switches, told by its members, rising, each after one blank.
 #[derive(Clone, Copy)]
-struct Members(u64);
+struct SwitchList(u64);
 
-impl fmt::Display for Members {
+impl fmt::Display for SwitchList {
     ghost output = { λ set. Some (movers_text (members set.0)) };
 
     fn fmt<W: fmt::Write>(&self, f: &mut fmt::Formatter<W>) -> fmt::Result {
@@ -38,7 +38,7 @@ pub fn summary(heap: Global, case: &Case) -> Result<String, AllocError>
 {
     let switches = case.switches();
     let flows = case.flows();
-    let movers = Members(case.movers());
+    let movers = SwitchList(case.movers());
     format!(in heap; "switches {switches}\nflows {flows}\nmovers{movers}\n")
 }
 

@@ -17,7 +17,7 @@ impl Sheet for Brand {
     ghost bytes = { [] };
 }
 
-// It keeps the sheet and a place in it, and not the bytes that are left, since faults are told by their place, and rows are tested by links that were read before.
+// Reads the sheet S. It keeps the sheet and a place in it, and not the bytes that are left, since faults are told by their place, and rows are tested by links that were read before.
 #[derive(Drop)]
 pub struct Reader<'a, S: Sheet> {
     sheet: &'a [u8],

@@ -1,6 +1,6 @@
 use Rattle.std.specs.Fmt.{HasWritten, IsPlainFormatter}
 use Rattle.info.specs.Texts.{movers_text}
-use Rattle.info.proofs.MembersDisplay.fmt.Given as goal
+use Rattle.info.proofs.SwitchListDisplay.fmt.Given as goal
 
 -- the members so far are written
 abbrev pub invariant-loop-s : goal.invariant-loop-s
