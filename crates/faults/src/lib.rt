@@ -42,6 +42,7 @@ impl From<FaultKind> for u8 {
     ghost from_gives = { λ kind number. number ≡ number_of kind };
 
     fn from(kind: FaultKind) -> u8 {
+        // the discriminants are the numbers
         kind as u8
     }
 }

@@ -22,6 +22,7 @@ pub fn mask_at(sheet: &[u8], place: usize) -> Option<u64>
 }
 
 // Whether each switch of the set m is below n.
+#[tactic(auto, using(sets::proofs::Laws::below_ltb))]
 pub fn mask_fits(m: u64, n: u8) -> bool
     ensures { result ≡ mask_fits n m }
 {

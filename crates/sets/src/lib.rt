@@ -42,6 +42,7 @@ pub fn joined(a: u64, b: u64) -> u64
 }
 
 // Whether each switch of a is in b.
+#[tactic(auto, using(crate::proofs::Laws::part_test))]
 pub fn part_of(a: u64, b: u64) -> bool
     ensures { IsTrue result ↔ PartOf a b }
 {
@@ -49,6 +50,7 @@ pub fn part_of(a: u64, b: u64) -> bool
 }
 
 // Whether a and b have no switch in common.
+#[tactic(auto, using(crate::proofs::Laws::apart_test))]
 pub fn apart(a: u64, b: u64) -> bool
     ensures { IsTrue result ↔ Disjoint a b }
 {
@@ -56,6 +58,7 @@ pub fn apart(a: u64, b: u64) -> bool
 }
 
 // Whether a and b have the same switches: equal numbers are equal sets. A test of its own, since `==` on numbers says nothing of members.
+#[tactic(auto, using(crate::proofs::Laws::same_test))]
 pub fn same(a: u64, b: u64) -> bool
     ensures { IsTrue result ↔ SameMembers a b }
 {
@@ -70,6 +73,7 @@ pub fn below(set: u64, n: u8) -> bool
 }
 
 // How many switches the set has.
+#[tactic(auto, using(crate::proofs::Laws::count_members))]
 pub fn count(set: u64) -> u8
     ensures { result ≡ length (members set) }
 {
