@@ -5,6 +5,7 @@
 mod tests {
     use cases::{Case, read};
     use faults::{Fault, FaultKind, Section};
+    use records::Tables;
     use std::test::Fail;
 
     // Four switches and one flow from 0 to 3, whose middle two switches change places.
@@ -65,6 +66,33 @@ mod tests {
         let text = format!(in rt.alloc(); "{fault}")?;
         assert_eq!(rt; text.as_str(), "10 D 41");
         Ok(())
+    }
+
+    #[test]
+    fn kinds_and_sections_have_numbers_and_letters(rt: HostRuntime) {
+        assert_eq!(rt; u8::from(FaultKind::Hop), 7);
+        assert_eq!(rt; char::from(Section::B), 'B');
+    }
+
+    // The diamond's tables, in which the rows of switches 0, 1 and 2 differ.
+    #[test]
+    fn movers_stand_between_whole_tables(rt: HostRuntime) {
+        let old = b"\x01\x02\x03\xff".as_slice();
+        let new = b"\x02\x03\x01\xff".as_slice();
+        assert_eq!(rt; Tables::new(old, new, 4, 1).map(|t| t.movers()), Some(7));
+        assert_eq!(rt; Tables::new(old, old, 4, 1).map(|t| t.movers()), Some(0));
+        assert!(rt; Tables::new(old, new, 5, 1).is_none());
+        assert!(rt; Tables::new(old, &new[..3], 4, 1).is_none());
+        assert!(rt; Tables::new(&[], &[], 65, 0).is_none());
+    }
+
+    #[test]
+    fn switches_come_rising(rt: HostRuntime) {
+        let mut left = sets::rising(1 << 63 | 40);
+        assert_eq!(rt; left.next(), Some(3));
+        assert_eq!(rt; left.next(), Some(5));
+        assert_eq!(rt; left.next(), Some(63));
+        assert_eq!(rt; left.next(), None);
     }
 
     #[test]

@@ -13,15 +13,13 @@ ghost use Rattle.records.specs.Tables.{row_size, Mover, HopsInside};
 
 use faults::Fault;
 use records::mask_at;
-use sheet::read_numbers;
+use sheet::{Numbers, read_numbers};
 use std::marker::Model;
 
 #[derive(Drop)]
 pub struct Case<'a> {
     sheet: &'a [u8],
-    switches: u8,
-    flows: u8,
-    movers: u64,
+    numbers: Numbers,
 }
 
 // A case is seen as its sheet.
@@ -33,7 +31,7 @@ impl<'a> Model for Case<'a> {
 
     ghost view = { λ c. c.sheet.now };
 
-    ghost invariant = { λ c. CaseOf c.sheet.now c.switches c.flows c.movers };
+    ghost invariant = { λ c. CaseOf c.sheet.now c.numbers.switches c.numbers.flows c.numbers.movers };
 }
 
 // Where a flow comes in and goes out.
@@ -49,13 +47,17 @@ const SMALLEST: &[u8; 25] = b"\x01\0\0\0\0\0\0\0\0\x01\0\0\x01\xff\x01\xff\x01\0
 impl<'a> Case<'a> {
     // The case of the smallest lawful sheet: a place to read another into.
     pub fn smallest() -> Case<'a>
-        ensures { result ≡ smallest_sheet }
+        ensures value { result ≡ smallest_sheet }
+        ensures lawful { LawfulSheet result }
     {
-        Case {
-            sheet: SMALLEST,
+        let numbers = Numbers {
             switches: 1,
             flows: 1,
             movers: 0,
+        };
+        Case {
+            sheet: SMALLEST,
+            numbers,
         }
     }
 
@@ -65,7 +67,7 @@ impl<'a> Case<'a> {
         ensures range { (0 < result) × (result ≤ 64) }
         ensures lawful { LawfulSheet self.now }
     {
-        self.switches
+        self.numbers.switches
     }
 
     // How many flows there are.
@@ -73,7 +75,7 @@ impl<'a> Case<'a> {
         ensures value { result ≡ flows_of self.now }
         ensures range { (0 < result) × (result ≤ 8) }
     {
-        self.flows
+        self.numbers.flows
     }
 
     // The switch where flow j comes in, if there is such a flow.
@@ -97,7 +99,7 @@ impl<'a> Case<'a> {
         ensures value { result ≡ of_flow (flows_of self.now) j (needed_of self.now j) }
         ensures inside { IfSome result (λ m. MembersBelow (switches_of self.now) m) }
     {
-        if j < self.flows {
+        if j < self.numbers.flows {
             mask_at(self.sheet, self.needed_from() + 8 * usize::from(j))
         } else {
             None
@@ -128,7 +130,7 @@ impl<'a> Case<'a> {
         ensures listed { members result ≡ movers_of self.now }
         ensures few { length (members result) ≤ 16 }
     {
-        self.movers
+        self.numbers.movers
     }
 
     // The ends of flow j, if there is such a flow.
@@ -136,7 +138,7 @@ impl<'a> Case<'a> {
         ensures value { SomeIff result (j < flows_of self.now) (record { ingress = ingress_of self.now j; exit = exit_of self.now j }) }
         ensures inside { IfSome result (λ ends. (ends.ingress < switches_of self.now) × (ends.exit < switches_of self.now)) }
     {
-        if j >= self.flows {
+        if j >= self.numbers.flows {
             return None;
         }
         let at = self.ends_from() + 2 * usize::from(j);
@@ -160,7 +162,7 @@ impl<'a> Case<'a> {
         ensures value { result ≡ switches_of self.now * row_size (flows_of self.now) }
         ensures bound { result < 65536 }
     {
-        usize::from(self.switches) * usize::from(self.flows)
+        usize::from(self.numbers.switches) * usize::from(self.numbers.flows)
     }
 
     // The place of the first pair of section B.
@@ -168,7 +170,7 @@ impl<'a> Case<'a> {
         ensures value { result ≡ ends_from self.now 0 }
         ensures bound { result < 65536 }
     {
-        1 + 8 * usize::from(self.switches) + 1
+        1 + 8 * usize::from(self.numbers.switches) + 1
     }
 
     // The place of the first old row.
@@ -177,7 +179,7 @@ impl<'a> Case<'a> {
         ensures lawful { LawfulSheet self.now }
         ensures bound { result < 131072 }
     {
-        self.ends_from() + 2 * usize::from(self.flows) + 1
+        self.ends_from() + 2 * usize::from(self.numbers.flows) + 1
     }
 
     // The place of the first new row.
@@ -205,21 +207,20 @@ pub fn read<'a>(sheet: &'a [u8], case: &mut Case<'a>) -> Result<(), Fault>
     ensures faulty { MatchResult result (λ _. LawfulSheet sheet.now) (λ e. FirstFails sheet.now e) }
     ensures exactly { (e : FaultT) → FirstFails sheet.now e → told_by result ≡ Some e }
     ensures held { MatchResult result (λ _. case.new ≡ sheet.now) (λ _. case.new ≡ case.old) }
+    ensures place { LawfulSheet case.new }
 {
     fill(sheet, case)
 }
 
-// The same, as the list of pieces tells it.
+// The same, as the list of pieces tells it: what `read` ensures besides follows from this.
 fn fill<'a>(sheet: &'a [u8], case: &mut Case<'a>) -> Result<(), Fault>
     ensures tells { told_by result ≡ first_fault sheet.now }
     ensures held { MatchResult result (λ _. case.new ≡ sheet.now) (λ _. case.new ≡ case.old) }
+    ensures place { LawfulSheet case.new }
 {
+    // opens the case, so that it is known to be lawful where it stays
+    let _ = &case.sheet;
     let numbers = read_numbers(sheet)?;
-    *case = Case {
-        sheet,
-        switches: numbers.switches,
-        flows: numbers.flows,
-        movers: numbers.movers,
-    };
+    *case = Case { sheet, numbers };
     Ok(())
 }

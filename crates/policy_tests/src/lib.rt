@@ -23,7 +23,7 @@ fn meets_needs(needed: &Needed, flow: u8, list: &[u8]) -> bool
     judge(needed, flow, list)
 }
 
-// Some run is accepted, whatever the flow.
+// Some run is accepted, whatever the flow. The automaton is made here, so that what `new` ensures is used as well.
 fn has_run(steps: &[Transition], start: u32, accepting: u32, flow: u8, list: &[u8]) -> bool
     ensures { IsTrue result ↔ Accepts steps.now start accepting list.now }
 {
@@ -55,7 +55,7 @@ mod tests {
     use policy::Policy;
     use std::process::Abort;
 
-    // Each row has a flow, a list for it, and whether the list is allowed.
+    // Each row has a flow, a list for it, and the answer that is wanted: a `bool`, as judging gives it.
     fn agrees<P: Policy>(rt: &impl Abort, policy: &P, rows: &[(u8, &[u8], bool)]) {
         for &(flow, list, allowed) in rows {
             assert_eq!(rt; judge(policy, flow, list), allowed);
@@ -142,7 +142,7 @@ mod tests {
         );
     }
 
-    // The diamond, which `case_tests` has with nothing needed (each crate of tests holds its own sheets): four switches and one flow from 0 to 3, whose middle two switches change places. The flow needs switch 1.
+    // The diamond, which `case_tests` has with nothing needed; to share it, a library would have to hand out a sheet for tests alone. Four switches and one flow from 0 to 3, whose middle two switches change places. The flow needs switch 1.
     const DIAMOND: &[u8; 55] = b"\x04\
         \0\0\0\0\0\0\0\x06\0\0\0\0\0\0\0\x0c\0\0\0\0\0\0\0\x0a\0\0\0\0\0\0\0\0\
         \x01\0\x03\

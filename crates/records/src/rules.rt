@@ -21,7 +21,7 @@ pub fn mask_at(sheet: &[u8], place: usize) -> Option<u64>
     rest.first_chunk().map(|bytes| u64::from_be_bytes(*bytes))
 }
 
-// Whether each switch of the set m is below n.
+// Whether each switch of the set m is below n: as a sheet's test says it, where `sets::below` speaks of members.
 #[tactic(auto, using(sets::proofs::Laws::below_ltb))]
 pub fn mask_fits(m: u64, n: u8) -> bool
     ensures { result ≡ mask_fits n m }

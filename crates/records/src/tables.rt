@@ -3,7 +3,7 @@ ghost use Rattle.std.specs.Prelude.{◌≡◌, ◌+◌, ◌*◌, ◌<◌, ◌≤
 ghost use Rattle.records.specs.Tables.{row_size, table_row, rows_differ, WholeTables};
 
 // The old and the new table of a network: a row for each switch, and in it an entry for each flow.
-#[derive(Clone, Copy, Debug)]
+#[derive(Clone, Copy, Debug, PartialEq, Eq, Hash)]
 pub struct Tables<'a> {
     pub old: &'a [u8],
     pub new: &'a [u8],
@@ -53,7 +53,7 @@ impl<'a> Tables<'a> {
     pub fn movers(&self) -> u64
         ensures { MoversBetween self.now result }
     {
-        // A loop, since no proof closed for `filter` and `fold`: the check loses that the closure leaves the tables as they are.
+        // A loop, since no proof closed for `filter` and `fold`, nor for `fold` with the `if` in it: what they return stays open.
         let mut set = 0;
         for s in 0..self.switches {
             if self.moves(s) {

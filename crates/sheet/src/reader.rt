@@ -27,7 +27,7 @@ pub struct Reader<'a, S: Sheet> {
     ghost inside: { at ≤ length sheet.now },
 }
 
-// The number of the sheet's switches.
+// The number of the sheet's switches. Not one type with the number of flows: that type would need another to say which of the two it counts.
 #[derive(Drop)]
 pub struct Switches<S: Sheet> {
     count: u8,

@@ -15,6 +15,7 @@ use records::{links_fit, mask_at, mask_fits, row_fits, within};
 // The size of a mask in bytes.
 const MASK: u8 = 8;
 
+// Each record is told with the fault that it would have, read, and tested. A function for the three steps would take two closures, which say no less than the steps.
 impl<'a, S: Sheet> Reader<'a, S> {
     // The fault of a record that begins here.
     pub(super) fn fault(&self, kind: FaultKind, section: Section) -> Fault
@@ -50,7 +51,7 @@ impl<'a, S: Sheet> Reader<'a, S> {
     {
         let sheet = self.sheet;
         let from = self.at;
-        // Byte by byte, as the layers go: it is the byte that is missing.
+        // Byte by byte: the project wants a fault to rise from the byte to the record.
         for _ in 0..size {
             self.byte(section)?;
         }

@@ -9,7 +9,9 @@ use crate::tested::tested;
 use faults::{Fault, FaultKind, Section};
 use std::marker::PhantomData;
 
-// The most switches and flows that a sheet can have.
+// Each section is a loop of its own, with `?` for a record that fails: `try_for_each` would hold the same call in a closure that borrows the reader.
+
+// The most switches and flows that a sheet can have: the sheet's own limits, and not what a set can hold.
 const MOST_SWITCHES: u8 = 64;
 
 const MOST_FLOWS: u8 = 8;
