@@ -44,6 +44,7 @@ struct Ends {
 // The smallest lawful sheet: one switch, and one flow that ends where it begins.
 const SMALLEST: &[u8; 25] = b"\x01\0\0\0\0\0\0\0\0\x01\0\0\x01\xff\x01\xff\x01\0\0\0\0\0\0\0\0";
 
+// That a case is lawful is the model's invariant, which callers do not see: so it stands in the clauses of calls. The size of a table stands in those of both, since callers take rows from them by it.
 impl<'a> Case<'a> {
     // The case of the smallest lawful sheet: a place to read another into.
     pub fn smallest() -> Case<'a>
