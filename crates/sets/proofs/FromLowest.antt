@@ -4,24 +4,19 @@ use Rattle.std.specs.Bool.{one_answer}
 use Rattle.std.specs.List.{range_with_len}
 use Rattle.std.proofs.lemmas.Bool.{cases_eq, eq-eqb, ne_eqb}
 use Rattle.sets.specs.Sets.{bit, InSet, Exactly, Empty, Lowest, members}
-use Rattle.sets.proofs.Laws.{member_eqb, number_below, filter_past}
+use Rattle.sets.proofs.Laws.{member_eqb, number_below, filter_past, filter_same}
 
 -- an empty set has no members
 pub members_none : (m : ℕ) → Empty m → members m ≡ []
 unfolding members
 members_none m none = filter_past (λ s. eqb (bit m s) 1) 0 64 (λ t _. ne_eqb (bit m t) 1 (none t))
 
--- tests that agree from a on
-same_from : (p q : ℕ → Bool) (k a : ℕ) → ((t : ℕ) → a ≤ t → p t ≡ q t) → filter p (range_with_len a k) ≡ filter q (range_with_len a k)
-same_from p q zero a same = refl
-same_from p q (suc k) a same = rw (same a (omega arith), same_from p q k (a + 1) (λ t h. same t (omega arith))) refl
-
 -- tests of which one alone says yes of s, neither of what is below, and that agree above
 one_first : (p q : ℕ → Bool) (s k a : ℕ) → a ≤ s → s < a + k → ((t : ℕ) → t < s → p t ≡ false) → ((t : ℕ) → t < s → q t ≡ false) → p s ≡ true → q s ≡ false → ((t : ℕ) → s < t → p t ≡ q t) → filter p (range_with_len a k) ≡ s ∷ filter q (range_with_len a k)
 one_first p q s zero a low high none_p none_q at_s not_q same = absurd (omega arith)
 one_first p q s (suc k) a low high none_p none_q at_s not_q same =
     elim (cases_eq s a) [
-      | inl e ↦ rw (← e, at_s, not_q, same_from p q k (s + 1) (λ t h. same t (omega arith))) refl
+      | inl e ↦ rw (← e, at_s, not_q, filter_same p q k (s + 1) (λ t low _. same t (omega arith))) refl
       | inr ne ↦ rw (none_p a (omega arith), none_q a (omega arith)) (one_first p q s k (a + 1) (omega arith) (omega arith) none_p none_q at_s not_q same)
     ]
 

@@ -149,15 +149,13 @@ abbrev pub Chosen : ℕ → (ℕ → Bool) → ℕ → Type 0
 Chosen m p n = Exactly m (λ t. (t < n) × (p t ≡ true))
 
 -- its members, rising
-pub filter_range_more : (p : ℕ → Bool) (s : ℕ) → filter p (range_with_len 0 (s + 1)) ≡ filter p (range_with_len 0 s) ++ cond (p s) (s ∷ []) []
-filter_range_more p s = simp map-id at (filter_of_map_range_with_len_more p (λ x. x) 0 s s (omega arith))
-
 filter_next : (p : ℕ → Bool) (s : ℕ) → filter p (range_with_len 0 (suc s)) ≡ filter p (range_with_len 0 s) ++ cond (p s) (s ∷ []) []
-filter_next p s = rw add-one at (filter_range_more p s)
+filter_next p s = rw add-one at (simp map-id at (filter_of_map_range_with_len_more p (λ x. x) 0 s s (omega arith)))
 
-filter_same : (p q : ℕ → Bool) (n : ℕ) → ((t : ℕ) → t < n → p t ≡ q t) → filter p (range_with_len 0 n) ≡ filter q (range_with_len 0 n)
-filter_same p q zero same = refl
-filter_same p q (suc n) same = let rest = filter_same p q n (λ t h. same t (omega arith)) in rw (filter_next p n, filter_next q n, rest, same n (omega arith))
+-- tests that agree over a range keep the same numbers
+pub filter_same : (p q : ℕ → Bool) (k a : ℕ) → ((t : ℕ) → a ≤ t → t < a + k → p t ≡ q t) → filter p (range_with_len a k) ≡ filter q (range_with_len a k)
+filter_same p q zero a same = refl
+filter_same p q (suc k) a same = rw (same a (omega arith) (omega arith), filter_same p q k (a + 1) (λ t low high. same t (omega arith) (omega arith))) refl
 
 -- numbers that do not pass add nothing
 pub filter_past : (p : ℕ → Bool) (n d : ℕ) → ((t : ℕ) → n ≤ t → p t ≡ false) → filter p (range_with_len 0 (n + d)) ≡ filter p (range_with_len 0 n)
@@ -171,7 +169,7 @@ chosen_members m p n small only =
     let has : ℕ → Bool = λ s. eqb (bit m s) 1 in
     ap (λ k. filter has (range_with_len 0 k)) e
     ∙ filter_past has n (64 - n) (λ t ge. ne_eqb (bit m t) 1 (λ h. omega (arith, (only.each t h).0)))
-    ∙ filter_same has p n (λ t less. one_answer (has t) (p t) (member_eqb m t) ((λ e. only.all t (less, e)), (λ h. (only.each t h).1)))
+    ∙ filter_same has p n 0 (λ t _ less. one_answer (has t) (p t) (member_eqb m t) ((λ e. only.all t (omega arith, e)), (λ h. (only.each t h).1)))
 
 -- and back: the list of the members says which they are
 listed : (p : ℕ → Bool) (n s : ℕ) → Contains (filter p (range_with_len 0 n)) s ↔ ((s < n) × (p s ≡ true))
