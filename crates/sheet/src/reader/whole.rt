@@ -48,12 +48,7 @@ fn read_all<S: Sheet>(sheet: &[u8]) -> Result<Numbers, Fault>
     let new = reader.table(Section::D, &n, &f)?;
     reader.needed(&n, &f)?;
     reader.no_more()?;
-    let tables = Tables {
-        old,
-        new,
-        switches: n.count,
-        flows: f.count,
-    };
+    let tables = Tables::new(old, new, n.count, f.count).unwrap();
     let movers = few_movers(&tables, Section::D, place)?;
     Ok(Numbers {
         switches: n.count,
