@@ -34,11 +34,13 @@ impl<'a, S: Sheet> Reader<'a, S> {
         ensures goes { OnOk result (Advanced S.bytes 1 self.old.at self.new.at) }
         ensures ends { IfErr result (RunsOut S.bytes 1 self.old.at section) }
     {
-        let byte = self.sheet.get(self.at).copied().ok_or(Fault {
-            kind: FaultKind::EndsTooSoon,
-            section,
-            place: self.sheet.len(),
-        })?;
+        let Some(&byte) = self.sheet.get(self.at) else {
+            return Err(Fault {
+                kind: FaultKind::EndsTooSoon,
+                section,
+                place: self.sheet.len(),
+            });
+        };
         self.at += 1;
         Ok(byte)
     }
@@ -76,9 +78,9 @@ impl<'a, S: Sheet> Reader<'a, S> {
         ensures goes { OnOk result (self.new.at ≡ self.old.at + 1) }
     {
         let fault = self.fault(kind, section);
-        let count = self.byte(section)?;
-        tested(within(most, count), fault)?;
-        Ok(count)
+        let number = self.byte(section)?;
+        tested(within(most, number), fault)?;
+        Ok(number)
     }
 
     // The links of switch s.
