@@ -25,7 +25,7 @@ parted (x ∷ xs) (y ∷ ys) l ne =
     ]
 
 module _ (n f : ℕ) (old new : List ℕ) (in_old : n * f ≤ length old) (in_new : n * f ≤ length new) where
-  mover_test : (s : ℕ) → s < n → Decides (rows_differ f old new s) (Mover n f old new s)
+  pub mover_test : (s : ℕ) → s < n → Decides (rows_differ f old new s) (Mover n f old new s)
   mover_test s h =
       let a = table_row f old s in
       let b = table_row f new s in

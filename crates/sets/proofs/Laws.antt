@@ -4,7 +4,8 @@ use lib.Arith.{bin_ind}
 use lib.Bits.{bit_and, bit_or, bit_xor}
 use lib.Count.{ones, ones_step, ones-ones}
 use Rattle.std.specs.Bool.{one_answer}
-use Rattle.std.specs.Int.{w64, bit_not, trailing_zeros}
+use mir.Val.{bits}
+use Rattle.std.specs.Int.{Width, w64, bit_not, trailing_zeros}
 use Rattle.std.specs.List.{range_with_len}
 use Rattle.std.proofs.lemmas.Nat.{pow_pos, shr-shr, div_below, div-add-mod', mod_below}
 use Rattle.std.proofs.lemmas.Nat.Bits.{bit_at-suc, bit_at-zero, bit_at_and, bit_at_or, bit_at_xor, bit_at-pow_same, bit_at-pow_other, bit_at-trailing_zeros, bit_at_clear_same, bit_at_above, bit_at_clear_other, same_from_bits}
@@ -122,11 +123,11 @@ pub count_members : (m : ℕ) → m < 2 ^ 64 → length (members m) ≡ ones m
 unfolding members
 count_members m h = count_from m 64 0 (omega (arith, div-one m)) ∙ ap ones (div-one m)
 
--- the zeros below the lowest set bit
-pub lowest_trailing : (m : ℕ) → 0 < m → m < 2 ^ 64 → Lowest m (trailing_zeros w64 m)
-lowest_trailing m pos small =
-    let low = bit_at-trailing_zeros w64 m pos small in
-    record { member = low.1; least = λ t h. grind (arith, low.2 t) }
+-- the zeros below the lowest set bit, of a number of any width
+pub lowest_trailing : (w : Width) (m : ℕ) → 0 < m → m < 2 ^ bits w → Lowest m (trailing_zeros w m) × (trailing_zeros w m < bits w)
+lowest_trailing w m pos small =
+    let low = bit_at-trailing_zeros w m pos small in
+    (record { member = low.1; least = λ t h. grind (arith, low.2 t) }, low.0)
 
 -- one switch less, by the mask of all others
 pub cleared_members : (m s : ℕ) → m < 2 ^ 64 → s < 64 → Exactly (bit_and m (bit_not w64 (1 * 2 ^ s % 2 ^ 64))) (λ t. InSet m t × (t ≡ s → ⊥))
@@ -149,7 +150,7 @@ abbrev pub Chosen : ℕ → (ℕ → Bool) → ℕ → Type 0
 Chosen m p n = Exactly m (λ t. (t < n) × (p t ≡ true))
 
 -- its members, rising
-filter_next : (p : ℕ → Bool) (s : ℕ) → filter p (range_with_len 0 (suc s)) ≡ filter p (range_with_len 0 s) ++ cond (p s) (s ∷ []) []
+pub filter_next : (p : ℕ → Bool) (s : ℕ) → filter p (range_with_len 0 (suc s)) ≡ filter p (range_with_len 0 s) ++ cond (p s) (s ∷ []) []
 filter_next p s = rw add-one at (simp map-id at (filter_of_map_range_with_len_more p (λ x. x) 0 s s (omega arith)))
 
 -- tests that agree over a range keep the same numbers
