@@ -1,5 +1,5 @@
 -- The list of pieces and the sheet's own words say the same.
-use Rattle.std.proofs.Common.{◌≡◌, ℕ, zero, suc, ◌+◌, ◌*◌, ◌<◌, ◌≤◌, ◌↔◌, ◌≢◌, Bool, not, ◌&&◌, eqb, ltb, List, map, length, get_or, None, Decides, All, sym, refl, ap, ◌∙◌, subst, inl, inr, arith, rules}
+use Rattle.std.proofs.Common.{◌≡◌, ℕ, zero, suc, ◌+◌, ◌*◌, ◌<◌, ◌≤◌, ◌↔◌, ◌≢◌, Bool, true, not, ◌&&◌, eqb, ltb, List, map, length, get_or, None, Decides, All, sym, refl, ap, ◌∙◌, subst, inl, inr, arith, rules}
 use Rattle.std.specs.List.{range_with_len}
 use Rattle.std.proofs.lemmas.Bool.{cases_eq}
 use Rattle.std.proofs.lemmas.Bool.Decides.{nat_tests, Decides-and, Decides-or, Decides-not, Decides-like, Decides-eqb, Decides-by_and}
@@ -24,6 +24,10 @@ use Rattle.cases.specs.Lawful.{LawfulSheet}
 test_right : {P : Type 0} (n : ℕ) (c : Section) (p k : ℕ) (kind : FaultKind) (b : Bool) → p + k ≤ n → Decides b P → (wrong n (piece c p k kind b) ≡ None) ↔ P
 test_right n c p k kind b inside d = (grind (arith, nat_tests), grind (arith, nat_tests))
 
+-- a piece of one test that is right is there, and its test passes
+pub one_right : (n : ℕ) (c : Section) (p k : ℕ) (kind : FaultKind) (b : Bool) → wrong n (piece c p k kind b) ≡ None → (p + k ≤ n) × (b ≡ true)
+one_right n c p k kind b h = grind (arith, nat_tests)
+
 -- a count that is right is at most its bound
 pub counts_few : (n : ℕ) (bs : List ℕ) (c : Section) (kind : FaultKind) (most p : ℕ) → wrong n (counts_up_to bs c kind most p) ≡ None → byte_at bs p ≤ most
 counts_few n bs c kind most p h = grind (arith, nat_tests)
@@ -40,7 +44,7 @@ items_right {Q} n item (suc m) a each =
     )
 
 -- a section is right where its count and its records are
-section_right : {P : Type 0} {Q : ℕ → Type 0} (n : ℕ) (head : Piece) (item : ℕ → Piece) (m : ℕ) → (wrong n head ≡ None) ↔ P → ((i : ℕ) → i < m → (wrong n (item i) ≡ None) ↔ Q i) → (first_wrong n (counted head item m) ≡ None) ↔ (P × ((i : ℕ) → i < m → Q i))
+pub section_right : {P : Type 0} {Q : ℕ → Type 0} (n : ℕ) (head : Piece) (item : ℕ → Piece) (m : ℕ) → (wrong n head ≡ None) ↔ P → ((i : ℕ) → i < m → (wrong n (item i) ≡ None) ↔ Q i) → (first_wrong n (counted head item m) ≡ None) ↔ (P × ((i : ℕ) → i < m → Q i))
 section_right n head item m first each =
     let rest = items_right n item m 0 (λ i _ high. each i (omega arith)) in (
       (λ h. let b = option_or_none _ _ h in (first.0 b.0, λ i less. rest.0 b.1 i (omega arith) (omega arith))),
@@ -49,7 +53,7 @@ section_right n head item m first each =
 
 -- ---- tests
 
-count_test : (most k : ℕ) → Decides (in_range most k) ((0 < k) × (k ≤ most))
+pub count_test : (most k : ℕ) → Decides (in_range most k) ((0 < k) × (k ≤ most))
 count_test most k = (grind (arith, nat_tests), grind (arith, nat_tests))
 
 ends_test : (n i e : ℕ) → Decides (ltb i n && ltb e n) ((i < n) × (e < n))

@@ -1,11 +1,11 @@
 -- What a lawful sheet is, and what the first fault of another is, in the sheet's own words.
-use Rattle.std.specs.Prelude.{◌≡◌, ℕ, ◌+◌, ◌<◌, ◌≤◌, true, false, ◌⊎◌, List, ◌∷◌, ◌++◌, length, All, ◌≢◌}
+use Rattle.std.specs.Prelude.{◌≡◌, ℕ, ◌+◌, ◌<◌, ◌≤◌, Bool, true, false, ◌⊎◌, Option, Some, None, List, ◌∷◌, ◌++◌, length, All, ◌≢◌}
 use Rattle.sets.specs.Sets.{InSet}
 use Rattle.faults.specs.declared.FaultKind.TheVariants.{EndsTooSoon}
 use Rattle.faults.specs.declared.Fault.{Fault}
 use Rattle.faults.specs.Faults.{fault_of}
 use Rattle.sheet.specs.Layout.{byte_at, switches, links, flows, ingress_of, exit_of, old_from, new_from, old_table, new_table, needed_from, needed_of, sheet_end, movers_of}
-use Rattle.sheet.specs.Pieces.{Test, Piece, sheet_pieces}
+use Rattle.sheet.specs.Pieces.{Test, Piece, sheet_pieces, first_fault}
 use Rattle.records.specs.Tables.{row_size, hop_at, HopFits}
 
 -- every hop of a table of the sheet is none, or goes to a linked switch
@@ -31,6 +31,15 @@ pub record LawfulSheet (bs : List ℕ) : Type 0 where
   -- the sheet ends where section E does
   pub ends_there : length bs ≡ sheet_end bs
   pub few_movers : length (movers_of bs) ≤ 16
+
+-- there is no fault
+abbrev pub none_told : Option Fault → Bool
+none_told None = true
+none_told (Some e) = false
+
+-- lawful as a test
+abbrev pub is_lawful : List ℕ → Bool
+is_lawful bs = none_told (first_fault bs)
 
 -- a piece passes: its bytes are all there, and each of its tests passes
 pub record Passes (bs : List ℕ) (p : Piece) : Type 0 where

@@ -11,6 +11,7 @@ use std::alloc::{AllocError, Global};
 use std::fmt;
 
 // The line for a fault.
+#[tactic(auto, using(crate::proofs::Lines::refused_line))]
 pub fn refused(heap: Global, fault: &Fault) -> Result<String, AllocError>
     ensures { IfOk result (λ t. string_bytes t ≡ refused_text fault.now) }
 {
@@ -34,7 +35,7 @@ impl fmt::Display for SwitchList {
 
 // The lines for a lawful sheet.
 pub fn summary(heap: Global, case: &Case) -> Result<String, AllocError>
-    ensures { IfOk result (λ t. string_bytes t ≡ summary_text case.now) }
+    ensures { IfOk result (λ t. string_bytes t ≡ summary_text case.now.sheet.now) }
 {
     let switches = case.switches();
     let flows = case.flows();

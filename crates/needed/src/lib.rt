@@ -18,7 +18,7 @@ pub struct Needed {
 
 // The needed switches of a case; a flow that it does not have needs nothing.
 impl From<&Case<'_>> for Needed {
-    ghost from_gives = { λ case needed. MasksOf (flows_of case.now) (needed_of case.now) needed.masks };
+    ghost from_gives = { λ case needed. MasksOf (flows_of case.now.sheet.now) (needed_of case.now.sheet.now) needed.masks };
 
     fn from(case: &Case<'_>) -> Needed {
         let mut masks = [0; 8];
