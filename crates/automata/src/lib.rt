@@ -8,6 +8,10 @@ ghost use Rattle.automata.specs.States.{some_run};
 
 use policy::Policy;
 
+mod held;
+
+pub use held::{HeldAutomaton, Transitions};
+
 // States are numbered 0 to 31.
 const STATES: u8 = 32;
 

@@ -5,7 +5,7 @@ ghost use Rattle.std.specs.Prelude.{◌↔◌, IsTrue};
 ghost use Rattle.automata.specs.Runs.{Accepts};
 ghost use Rattle.needed.specs.Needs.{MeetsNeeds};
 
-use automata::{Automaton, Transition};
+use automata::{Automaton, HeldAutomaton, Transition, Transitions};
 use needed::Needed;
 use policy::{Both, Open, judge};
 
@@ -28,6 +28,13 @@ fn has_run(steps: &[Transition], start: u32, accepting: u32, flow: u8, list: &[u
     ensures { IsTrue result ↔ Accepts steps.now start accepting list.now }
 {
     judge(&Automaton::new(steps, start, accepting), flow, list)
+}
+
+// The same of an automaton that keeps what holds its transitions.
+fn has_held_run<T: Transitions>(held: &HeldAutomaton<T>, flow: u8, list: &[u8]) -> bool
+    ensures { IsTrue result ↔ Accepts (T.listed held.now.transitions) held.now.start held.now.accepting list.now }
+{
+    judge(held, flow, list)
 }
 
 // Both at once.
@@ -206,6 +213,42 @@ mod tests {
     }
 
     // A firewall, 1, then a load balancer, 2, then the exit, 3, with switch 0 anywhere before it.
+    // Transitions in a type of their own.
+    #[derive(Drop)]
+    struct Steps {
+        steps: [Transition; 2],
+    }
+
+    impl Transitions for Steps {
+        ghost listed = { λ s. s.steps };
+
+        fn all(&self) -> &[Transition] {
+            &self.steps
+        }
+    }
+
+    #[test]
+    fn an_automaton_may_keep_its_transitions(rt: HostRuntime) {
+        let held = HeldAutomaton {
+            transitions: Steps {
+                steps: [goes(0, 2, 1), goes(1, 3, 1)],
+            },
+            start: 1,
+            accepting: 2,
+        };
+        agrees(
+            &rt,
+            &held,
+            &[
+                (0, &[], false),
+                (0, &[2], true),
+                (9, &[2, 3, 3], true),
+                (0, &[3, 2], false),
+            ],
+        );
+        assert_eq!(rt; held.lent().transitions.len(), 2);
+    }
+
     #[test]
     fn a_service_chain_is_met_in_order(rt: HostRuntime) {
         let steps = [
