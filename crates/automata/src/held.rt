@@ -56,8 +56,8 @@ impl<T: Transitions> Policy for HeldAutomaton<T> {
 
     ghost tells = { λ p flow xs. some_run (T.Transitions.listed p.transitions) p.accepting p.start xs };
 
-    fn begin(&self, flow: u8) -> u32 {
-        self.lent().begin(flow)
+    fn begin(&self, _flow: u8) -> u32 {
+        self.start
     }
 
     fn pass(&self, mark: u32, switch: u8) -> u32 {
@@ -65,6 +65,6 @@ impl<T: Transitions> Policy for HeldAutomaton<T> {
     }
 
     fn allows(&self, mark: u32) -> bool {
-        self.lent().allows(mark)
+        mark & self.accepting != 0
     }
 }

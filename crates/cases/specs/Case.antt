@@ -1,4 +1,4 @@
--- What a case keeps beside its sheet.
+-- What a case keeps beside its sheet, and what its callers see of it.
 use Rattle.std.specs.Prelude.{◌≡◌, ℕ, true, List}
 use Rattle.std.specs.Borrow.{Bor}
 use Rattle.sets.specs.Sets.{members}

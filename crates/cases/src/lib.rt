@@ -23,7 +23,7 @@ pub struct Case<'a> {
     ghost lawful: { is_lawful sheet.now ≡ true },
 }
 
-// A case is seen as the sheet that it was lent, which is lawful.
+// A case is seen as the sheet that it was lent, which is lawful: as the slice, and not its bytes alone, so that "unchanged" says which slice it is.
 impl<'a> Model for Case<'a> {
     ghost use Rattle.cases.specs.Case.{CaseOf, HeldSheet};
 

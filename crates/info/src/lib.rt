@@ -10,7 +10,7 @@ use faults::Fault;
 use std::alloc::{AllocError, Global};
 use std::fmt;
 
-// The line for a fault.
+// The line for a fault. The lemma is for a text in parts, which is proved as well.
 #[tactic(auto, using(crate::proofs::Lines::refused_line))]
 pub fn refused(heap: Global, fault: &Fault) -> Result<String, AllocError>
     ensures { IfOk result (λ t. string_bytes t ≡ refused_text fault.now) }

@@ -212,7 +212,6 @@ mod tests {
         );
     }
 
-    // A firewall, 1, then a load balancer, 2, then the exit, 3, with switch 0 anywhere before it.
     // Transitions in a type of their own.
     #[derive(Drop)]
     struct Steps {
@@ -249,6 +248,7 @@ mod tests {
         assert_eq!(rt; held.lent().transitions.len(), 2);
     }
 
+    // A firewall, 1, then a load balancer, 2, then the exit, 3, with switch 0 anywhere before it.
     #[test]
     fn a_service_chain_is_met_in_order(rt: HostRuntime) {
         let steps = [

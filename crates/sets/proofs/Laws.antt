@@ -2,14 +2,13 @@
 use Rattle.std.proofs.Common.{◌≡◌, ℕ, zero, suc, ◌+◌, ◌-◌, ◌*◌, ◌/◌, ◌%◌, ◌^◌, ◌<◌, ◌≤◌, Bool, true, false, cond, eqb, ltb, ◌⊎◌, [], ◌∷◌, ◌++◌, length, Decides, filter, sym, refl, ap, ◌∙◌, inl, inr, add-one, add-zero, pow-suc, div-one, arith, Contains, ◌↔◌}
 use lib.Arith.{bin_ind}
 use lib.Bits.{bit_and, bit_or, bit_xor}
-use lib.Count.{ones, ones_step, ones-ones}
+use lib.Count.{count_trailing_zeros, under, ones, ones_step, ones-ones}
 use Rattle.std.specs.Bool.{one_answer}
-use mir.Val.{bits}
-use Rattle.std.specs.Int.{Width, w64, bit_not, trailing_zeros}
+use Rattle.std.specs.Int.{w64, bit_not}
 use Rattle.std.specs.List.{range_with_len}
 use Rattle.std.proofs.lemmas.Nat.{pow_pos, shr-shr, div_below, div-add-mod', mod_below}
-use Rattle.std.proofs.lemmas.Nat.Bits.{bit_at-suc, bit_at-zero, bit_at_and, bit_at_or, bit_at_xor, bit_at-pow_same, bit_at-pow_other, bit_at-trailing_zeros, bit_at_clear_same, bit_at_above, bit_at_clear_other, same_from_bits}
-use Rattle.std.proofs.lemmas.Bool.{cases_eq, cases_lt, eq-eqb, ne_eqb}
+use Rattle.std.proofs.lemmas.Nat.Bits.{bit_at-suc, bit_at-zero, bit_at_and, bit_at_or, bit_at_xor, bit_at-pow_same, bit_at-pow_other, bit_at_clear_same, bit_at_above, bit_at_clear_other, same_from_bits}
+use Rattle.std.proofs.lemmas.Bool.{cases_eq, cases_lt, both_ways, eq-eqb, ne_eqb}
 use Rattle.std.proofs.lemmas.Bool.Decides.{Decides-like, Decides-eqb, Decides-ltb}
 use Rattle.std.proofs.lemmas.List.Elements.{All-from_get_or, All-contains, All-filter, filter_passes, Contains-push, Contains-append_left}
 use Rattle.std.proofs.lemmas.List.FromFn.{filter_of_map_range_with_len_more, length-range_with_len, get_or-range_with_len}
@@ -123,11 +122,27 @@ pub count_members : (m : ℕ) → m < 2 ^ 64 → length (members m) ≡ ones m
 unfolding members
 count_members m h = count_from m 64 0 (omega (arith, div-one m)) ∙ ap ones (div-one m)
 
--- the zeros below the lowest set bit, of a number of any width
-pub lowest_trailing : (w : Width) (m : ℕ) → 0 < m → m < 2 ^ bits w → Lowest m (trailing_zeros w m) × (trailing_zeros w m < bits w)
-lowest_trailing w m pos small =
-    let low = bit_at-trailing_zeros w m pos small in
-    (record { member = low.1; least = λ t h. grind (arith, low.2 t) }, low.0)
+-- the zeros below the lowest set bit, of a number of k bits
+lowest_above : (n t : ℕ) → n % 2 ≡ 0 → Lowest (n / 2) t → Lowest n (suc t)
+lowest_above n t even low = record { member = bit_at-suc n t ∙ low.member; least = least_of }
+  where
+    least_of : (u : ℕ) → InSet n u → suc t ≤ u
+    least_of zero h = absurd (omega (arith, h, even, div-one n))
+    least_of (suc u) h = omega (arith, low.least u (sym (bit_at-suc n u) ∙ h))
+
+abbrev LowestBelow : ℕ → ℕ → ℕ → Type 0
+LowestBelow k n t = Lowest n t × (t < k)
+
+lowest_under : (k n d t : ℕ) → n % 2 ≡ d → (d ≡ 0 → LowestBelow k (n / 2) t) → LowestBelow (suc k) n (under d t)
+lowest_under k n zero t e rest = (lowest_above n t e (rest refl).0, omega (arith, (rest refl).1))
+lowest_under k n (suc d) t e rest = (record { member = omega (arith, e, div-one n); least = λ u h. omega arith }, omega arith)
+
+pub lowest_trailing : (k n : ℕ) → 0 < n → n < 2 ^ k → LowestBelow k n (count_trailing_zeros k n)
+unfolding count_trailing_zeros
+lowest_trailing zero n pos h = absurd (omega arith)
+lowest_trailing (suc k) n pos h =
+    lowest_under k n (n % 2) (count_trailing_zeros k (n / 2)) refl
+    (λ e. lowest_trailing k (n / 2) (omega (arith, e)) (div_below n 2 (2 ^ k) (omega arith) (omega (arith, h, pow-suc 2 k))))
 
 -- one switch less, by the mask of all others
 pub cleared_members : (m s : ℕ) → m < 2 ^ 64 → s < 64 → Exactly (bit_and m (bit_not w64 (1 * 2 ^ s % 2 ^ 64))) (λ t. InSet m t × (t ≡ s → ⊥))
@@ -148,6 +163,24 @@ member_eqb m s = Decides-eqb (bit m s) 1
 -- a set built by a loop that puts in each switch below n of which a test says yes
 abbrev pub Chosen : ℕ → (ℕ → Bool) → ℕ → Type 0
 Chosen m p n = Exactly m (λ t. (t < n) × (p t ≡ true))
+
+pub chosen_none : (p : ℕ → Bool) → Chosen 0 p 0
+chosen_none p = record { each = λ t h. absurd (none_in_zero t h); all = λ t h. absurd (omega (arith, h.0)) }
+
+pub chosen_with : (m r : ℕ) (p : ℕ → Bool) (n : ℕ) → n < 64 → Chosen m p n → p n ≡ true → Exactly r (λ t. InSet m t ⊎ ((t ≡ n) × (n < 64))) → Chosen r p (n + 1)
+chosen_with m r p n small before here put = record {
+  each = λ t h. elim (put.each t h) [
+    | inl k ↦ (omega (arith, (before.each t k).0), (before.each t k).1)
+    | inr e ↦ (omega (arith, e.0), ap p e.0 ∙ here)
+  ];
+  all = λ t h. put.all t (elim (cases_eq t n) [ inl e ↦ inr (e, small) | inr ne ↦ inl (before.all t (omega (arith, h.0), h.1)) ]);
+}
+
+pub chosen_skip : (m : ℕ) (p : ℕ → Bool) (n : ℕ) → Chosen m p n → p n ≡ false → Chosen m p (n + 1)
+chosen_skip m p n before here = record {
+  each = λ t h. (omega (arith, (before.each t h).0), (before.each t h).1);
+  all = λ t h. before.all t (elim (cases_eq t n) [ inl e ↦ absurd (both_ways (p n) here (ap p (sym e) ∙ h.1)) | inr ne ↦ omega (arith, h.0) ], h.1);
+}
 
 -- its members, rising
 pub filter_next : (p : ℕ → Bool) (s : ℕ) → filter p (range_with_len 0 (suc s)) ≡ filter p (range_with_len 0 s) ++ cond (p s) (s ∷ []) []
